@@ -1,0 +1,71 @@
+// Addresses on the Universal Measurement Bus. Each rule stands once, as a definition and as a function.
+ghost use mathlib.Core.Path.{_≡_};
+ghost use Rattle.std.specs.Orderings.{When};
+ghost use Rattle.address.specs.Addressing.{Station-class, class, reserve, id, Station, Controller, Broadcast-to-all, Broadcast-to-class, Reaches};
+
+// An address of 16 bits, of a device or of nobody: any number may come over the line.
+#[derive(Clone, Copy)]
+pub struct Address(pub u16);
+
+impl Address {
+    pub fn class(self) -> u16
+        ensures { λ r. ⌜ r ≡ class (self .0) ⌝ }
+    {
+        self.0 / 4096
+    }
+
+    pub fn reserve(self) -> u16
+        ensures { λ r. ⌜ r ≡ reserve (self .0) ⌝ }
+    {
+        self.0 / 256 % 16
+    }
+
+    pub fn id(self) -> u16
+        ensures { λ r. ⌜ r ≡ id (self .0) ⌝ }
+    {
+        self.0 % 256
+    }
+
+    fn has_station_class(self) -> bool
+        ensures { λ r. ⌜ When r (Station-class (self .0)) (Station-class (self .0) → ⊥) ⌝ }
+    {
+        1 <= self.class() && self.class() <= 14
+    }
+
+    pub fn is_station(self) -> bool
+        ensures { λ r. ⌜ When r (Station (self .0)) (Station (self .0) → ⊥) ⌝ }
+    {
+        self.has_station_class() && self.reserve() == 0 && 1 <= self.id()
+    }
+
+    pub fn is_controller(self) -> bool
+        ensures { λ r. ⌜ When r (Controller (self .0)) (Controller (self .0) → ⊥) ⌝ }
+    {
+        self.class() == 15 && self.reserve() == 0 && 1 <= self.id()
+    }
+
+    pub fn is_broadcast_to_all(self) -> bool
+        ensures { λ r. ⌜ When r (Broadcast-to-all (self .0)) (Broadcast-to-all (self .0) → ⊥) ⌝ }
+    {
+        self.0 == 0
+    }
+
+    pub fn is_broadcast_to_class(self) -> bool
+        ensures { λ r. ⌜ When r (Broadcast-to-class (self .0)) (Broadcast-to-class (self .0) → ⊥) ⌝ }
+    {
+        self.has_station_class() && self.reserve() == 0 && self.id() == 0
+    }
+
+    // Whether a telegram to `self` is a broadcast that `station` hears.
+    pub fn reaches(self, station: Address) -> bool
+        ensures { λ r. ⌜ When r (Reaches (self .0) (station .0)) (Reaches (self .0) (station .0) → ⊥) ⌝ }
+    {
+        if !station.is_station() {
+            return false;
+        }
+        if self.is_broadcast_to_all() {
+            return true;
+        }
+        self.is_broadcast_to_class() && self.class() == station.class()
+    }
+}
