@@ -57,11 +57,11 @@ bit-apart c b =
     let none : b % 2 / 2 ≡ 0 = div-eq-of-lt (mod-below b 2 (omega arith)) in
     let high : bitXor c (b % 2) / 2 ≡ c / 2 = xor-shr c (b % 2) 1 ∙ ap (bitXor (c / 2)) none ∙ xor-zero-r (c / 2) in
     let low : bitXor c (b % 2) % 2 ≡ bitXor c b % 2 =
-        xor-mod c (b % 2) 1 ∙ ap (bitXor (c % 2)) (mod-mod b 2) ∙ sym (xor-mod c b 1) in
+    xor-mod c (b % 2) 1 ∙ ap (bitXor (c % 2)) (mod-mod b 2) ∙ sym (xor-mod c b 1) in
     let brought : ℕ = bitXor c b % 2 * 0x8408 in
     simp (high, low, xor-shr c b 1)
     (xor-assoc (c / 2) brought (b / 2) ∙ ap (bitXor (c / 2)) (xor-comm brought (b / 2))
-        ∙ sym (xor-assoc (c / 2) (b / 2) brought))
+    ∙ sym (xor-assoc (c / 2) (b / 2) brought))
 
 -- n bits of a message enter one after the other as they do all at once
 pub bits-at-once : (n c b : ℕ) → b < 2 ^ n → bits-in n c b ≡ shifts n (bitXor c b)
@@ -78,4 +78,4 @@ byte-at-once c b h =
     let none : b / 256 ≡ 0 = div-eq-of-lt h in
     let high : bitXor c b / 256 ≡ c / 256 = xor-shr c b 8 ∙ ap (bitXor (c / 256)) none ∙ xor-zero-r (c / 256) in
     sym (bits-at-once 8 c b h ∙ shifts-split 8 (bitXor c b)
-        ∙ ap (λ (x : ℕ). bitXor x (shifts 8 (bitXor c b % 256))) high)
+    ∙ ap (λ (x : ℕ). bitXor x (shifts 8 (bitXor c b % 256))) high)

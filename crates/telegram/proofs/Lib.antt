@@ -1,0 +1,4 @@
+pub mod Back
+pub mod Frames
+pub mod Parts
+pub mod Tests

@@ -1,0 +1,5 @@
+pub mod Layout
+pub mod Reading
+pub mod View
+pub mod Writing
+pub mod Relay
