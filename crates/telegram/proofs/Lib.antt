@@ -1,4 +1,2 @@
-pub mod Back
 pub mod Frames
 pub mod Parts
-pub mod Tests

@@ -46,7 +46,8 @@ fn word_at(burst: &[u8], i: usize) -> u16
 }
 
 impl<'a> Telegram<'a> {
-    pub(crate) fn new(burst: &'a [u8], start: u16, len: u8) -> Telegram<'a>
+    // A view over the burst at the telegram that begins at `start` and has this len.
+    pub fn new(burst: &'a [u8], start: u16, len: u8) -> Telegram<'a>
         ensures { λ r. ⌜ burst-of r ≡ now (burst .entry) ⌝ ∗ ⌜ r .start ≡ start ⌝ ∗ ⌜ r .len ≡ len ⌝ }
     {
         Telegram { burst, start, len }

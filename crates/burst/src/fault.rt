@@ -1,8 +1,8 @@
 // What can be wrong with a burst. One definition, `told`, gives every case its number, layer and position.
 ghost use mathlib.Core.Path.{_≡_};
 ghost use Rattle.std.specs.declared.option.Option.the-variants.{Some};
-ghost use Rattle.telegram.specs.Reading.{line-told, told};
-ghost use Rattle.telegram.specs.declared.fault.ReadFault.the-variants.{AtLine};
+ghost use Rattle.burst.specs.Reading.{line-told, told};
+ghost use Rattle.burst.specs.declared.fault.ReadFault.the-variants.{AtLine};
 
 // The layer of the protocol at which a fault is found.
 #[derive(Clone, Copy)]

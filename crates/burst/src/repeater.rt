@@ -1,12 +1,12 @@
 // A telegram that is read, written again.
 ghost use mathlib.Core.Path.{_≡_};
 ghost use Rattle.std.specs.Results.{Cases};
-ghost use Rattle.telegram.specs.Relay.{Relayed, Not-relayed};
-ghost use Rattle.telegram.specs.declared.repeater.RelayFault.the-variants.{Unread};
+ghost use Rattle.burst.specs.Relay.{Relayed, Not-relayed};
+ghost use Rattle.burst.specs.declared.repeater.RelayFault.the-variants.{Unread};
 use super::fault::ReadFault;
 use super::search::read;
-use super::writer::WriteRefusal;
-use super::writer::write;
+use telegram::WriteRefusal;
+use telegram::write;
 
 // Why the telegram of a burst was not passed on.
 #[derive(Clone, Copy)]

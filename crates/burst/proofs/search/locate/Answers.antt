@@ -1,8 +1,8 @@
 use mathlib.Core.Logic.{inr}
 use Prim.Native.Nat.{zero-le}
 use Rattle.std.proofs.shelf.Results.{err-from-errBy}
-use Rattle.telegram.proofs.Tests.{soh-inside}
-use Rattle.telegram.proofs.search.locate.Needs as need
+use Rattle.burst.proofs.Tests.{soh-inside}
+use Rattle.burst.proofs.search.locate.Needs as need
 
 pub returns-in-Break-len : need.returns-in-Break-len
 returns-in-Break-len c =

@@ -4,10 +4,10 @@ use Prim.Native.Nat.{ℕ}
 use native.Mathlib.Omega.{arith}
 use borrow.Author.Needs.{needs}
 use Rattle.std.proofs.shelf.Tests.{cases-lt}
 use Rattle.telegram.specs.Layout.{Stands}
-use Rattle.telegram.proofs.Tests.{failed-none}
-use Rattle.telegram.proofs.search.search_from.Needs as need
-use Rattle.telegram.proofs.search.search_from.Needs.{then-burst-p-eq-SOH·in-rest, else-burst-p-eq-SOH}
+use Rattle.burst.proofs.Tests.{failed-none}
+use Rattle.burst.proofs.search.search_from.Needs as need
+use Rattle.burst.proofs.search.search_from.Needs.{then-burst-p-eq-SOH·in-rest, else-burst-p-eq-SOH}
 
 -- no telegram stands where the turn looked
 not-here : (c : need.Joined-burst-p-eq-SOH) → Stands (c .args .burst .now) (c .loop-p .p) → ⊥

@@ -3,11 +3,11 @@ use mathlib.Core.Path.{_≡_}
 use mathlib.Core.List.{List, _++_}
 use Prim.Native.Nat.{ℕ, _+_, _<_}
 use lib.ListN.{length, drop}
-use Rattle.telegram.specs.declared.repeater.RelayFault.{RelayFault}
-use Rattle.telegram.specs.declared.repeater.RelayFault.the-variants.{Unread as NotRead, Unwritten}
-use Rattle.telegram.specs.declared.writer.WriteRefusal.the-variants.{BufferTooShort}
+use Rattle.burst.specs.declared.repeater.RelayFault.{RelayFault}
+use Rattle.burst.specs.declared.repeater.RelayFault.the-variants.{Unread as NotRead, Unwritten}
+use Rattle.telegram.specs.declared.WriteRefusal.the-variants.{BufferTooShort}
 use Rattle.telegram.specs.Layout.{part, len, First, None-stands}
-use Rattle.telegram.specs.Reading.{Unread}
+use Rattle.burst.specs.Reading.{Unread}
 
 -- The bytes of the burst's telegram, just as they lie there, at the front of the buffer.
 pub record Relayed (burst before after : List ℕ) (n : ℕ) : Type 0 where

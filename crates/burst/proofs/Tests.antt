@@ -7,10 +7,10 @@ use native.Mathlib.Omega.{arith}
 use lib.ListN.{length}
 use Rattle.std.proofs.shelf.Lists.{getD-past}
 use Rattle.std.proofs.shelf.Tests.{cases-lt}
-use Rattle.telegram.specs.declared.fault.LineFault.{LineFault}
-use Rattle.telegram.specs.declared.fault.LineFault.the-variants.{NoSoh, EndsBeforeLen, LenOutOfRange, EndsTooEarly, WrongStx, WrongEtx, WrongEot, WrongChecksum}
+use Rattle.burst.specs.declared.fault.LineFault.{LineFault}
+use Rattle.burst.specs.declared.fault.LineFault.the-variants.{NoSoh, EndsBeforeLen, LenOutOfRange, EndsTooEarly, WrongStx, WrongEtx, WrongEot, WrongChecksum}
 use Rattle.telegram.specs.Layout.{at, Stands}
-use Rattle.telegram.specs.Reading.{Failed}
+use Rattle.burst.specs.Reading.{Failed}
 
 -- an SOH stands inside the burst
 pub soh-inside : (s : List ℕ) (q : ℕ) → at s q ≡ 0x01 → q < length s

@@ -10,15 +10,15 @@ use lib.ListN.{length, take, drop, length-take, length-drop, length-append}
 use Rattle.std.proofs.shelf.Lists.{append-assoc, drop-drop, drop-more, length-take-le}
 use Rattle.std.proofs.shelf.Bits.{div-mul-add, mod-mul-add}
 use Rattle.checksum.specs.Crc.{crc}
 use Rattle.telegram.proofs.Frames.{head}
-use Rattle.telegram.specs.declared.repeater.RelayFault.the-variants.{Unwritten}
-use Rattle.telegram.specs.declared.view.Telegram.{Telegram}
-use Rattle.telegram.specs.declared.writer.WriteRefusal.{WriteRefusal}
-use Rattle.telegram.specs.declared.writer.WriteRefusal.the-variants.{BufferTooShort, PayloadTooLong}
-use Rattle.telegram.specs.Relay.{Relayed, Not-relayed}
+use Rattle.burst.specs.declared.repeater.RelayFault.the-variants.{Unwritten}
+use Rattle.telegram.specs.declared.Telegram.{Telegram}
+use Rattle.telegram.specs.declared.WriteRefusal.{WriteRefusal}
+use Rattle.telegram.specs.declared.WriteRefusal.the-variants.{BufferTooShort, PayloadTooLong}
+use Rattle.burst.specs.Relay.{Relayed, Not-relayed}
 use Rattle.telegram.specs.View.{Views, burst-of}
 use Rattle.telegram.specs.Writing.{Refused, Written}
 use Rattle.telegram.specs.Layout.{at, word, part, len, Stands, First, Frame, frame-of, frame-at, low-first, covered, frame-bytes}
 
 -- the n bytes at p + k and after, one by one
 listed : List ℕ → ℕ → ℕ → ℕ → List ℕ

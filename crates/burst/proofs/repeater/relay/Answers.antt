@@ -1,6 +1,6 @@
 use Rattle.telegram.specs.View.{frame}
-use Rattle.telegram.proofs.Back.{relayed, not-relayed}
-use Rattle.telegram.proofs.repeater.relay.Needs as need
+use Rattle.burst.proofs.Back.{relayed, not-relayed}
+use Rattle.burst.proofs.repeater.relay.Needs as need
 
 pub returns-in-Ok : need.returns-in-Ok
 returns-in-Ok c =

@@ -1,0 +1,6 @@
+use mathlib.Core.Path.{refl}
+use Rattle.worked.proofs.Telegrams.{telegrams}
+use Rattle.worked.proofs.worked_cases.Needs as need
+
+pub returns : need.returns
+returns c = record { worked = telegrams; counted = refl }
