@@ -3,6 +3,8 @@
 use mathlib.Core.Path.{_≡_}
 use mathlib.Core.Logic.{_⊎_}
 use Prim.Native.Nat.{ℕ, _/_, _%_, _≤_}
+use Rattle.address.specs.declared.Role.{Role}
+use Rattle.address.specs.declared.Role.the-variants.{OfStation, OfController, ToAll, ToClass, OfNobody}
 
 -- bits 15 to 12: what kind of device it is
 abbrev pub class : ℕ → ℕ
@@ -35,3 +37,12 @@ Broadcast-to-class a = Station-class a × (reserve a ≡ 0) × (id a ≡ 0)
 -- the broadcast to all reaches every station, the one to a class the stations of that class
 abbrev pub Reaches : ℕ → ℕ → Type 0
 Reaches a s = Station s × (Broadcast-to-all a ⊎ (Broadcast-to-class a × (class a ≡ class s)))
+
+-- what an address is used for
+abbrev pub Has-role : ℕ → Role → Type 0
+Has-role a OfStation = Station a
+Has-role a OfController = Controller a
+Has-role a ToAll = Broadcast-to-all a
+Has-role a ToClass = Broadcast-to-class a
+Has-role a OfNobody =
+    (Station a → ⊥) × (Controller a → ⊥) × (Broadcast-to-all a → ⊥) × (Broadcast-to-class a → ⊥)

@@ -1,7 +1,17 @@
 // Addresses on the Universal Measurement Bus. Each rule stands once, as a definition and as a function.
 ghost use mathlib.Core.Path.{_≡_};
 ghost use Rattle.std.specs.Orderings.{When};
-ghost use Rattle.address.specs.Addressing.{Station-class, class, reserve, id, Station, Controller, Broadcast-to-all, Broadcast-to-class, Reaches};
+ghost use Rattle.address.specs.Addressing.{Station-class, class, reserve, id, Station, Controller, Broadcast-to-all, Broadcast-to-class, Reaches, Has-role};
+
+// What an address is used for.
+#[derive(Clone, Copy)]
+pub enum Role {
+    OfStation,
+    OfController,
+    ToAll,
+    ToClass,
+    OfNobody,
+}
 
 // An address of 16 bits, of a device or of nobody: any number may come over the line.
 #[derive(Clone, Copy)]
@@ -67,5 +77,23 @@ impl Address {
             return true;
         }
         self.is_broadcast_to_class() && self.class() == station.class()
+    }
+
+    pub fn role(self) -> Role
+        ensures { λ r. ⌜ Has-role (self .0) r ⌝ }
+    {
+        if self.is_station() {
+            return Role::OfStation;
+        }
+        if self.is_controller() {
+            return Role::OfController;
+        }
+        if self.is_broadcast_to_all() {
+            return Role::ToAll;
+        }
+        if self.is_broadcast_to_class() {
+            return Role::ToClass;
+        }
+        Role::OfNobody
     }
 }

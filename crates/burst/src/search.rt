@@ -11,8 +11,8 @@ ghost use Rattle.burst.specs.declared.fault.ReadFault.the-variants.{TooLong};
 use super::fault::LineFault;
 use super::fault::ReadFault;
 use super::fault::ReadFaultFromLine;
-use telegram::Telegram;
 use checksum::crc;
+use telegram::Telegram;
 
 const SOH: u8 = 0x01;
 

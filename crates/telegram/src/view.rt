@@ -12,6 +12,15 @@ pub struct Part<'a> {
     pub bytes: &'a [u8],
 }
 
+impl Part<'_> {
+    // The number in its first two bytes, low byte first; a byte that is not there counts 0.
+    pub fn number(&self) -> u16
+        ensures { λ r. ⌜ r ≡ word (now (now (self .entry) .bytes)) 0 ⌝ }
+    {
+        word_at(self.bytes, 0)
+    }
+}
+
 // The telegram that begins at `start`. What would lie past the end of the burst reads as nothing or 0, so no question
 // can go out of bounds; of a telegram that `find` or `read` gives, all of it lies in the burst.
 #[derive(Clone, Copy)]

@@ -35,18 +35,18 @@ unfolding none-passes
 none-below s zero h q less t = omega arith
 none-below s (suc n) h q less t =
     let parts = and-parts (not (passes s n)) (none-passes s n) h in
-    elim (cases-lt q n)
-    [ inl below ↦ none-below s n (parts .1) q below t
-    | inr here ↦
-        let e : q ≡ n = omega arith in
-        both-ways (passes s n) (not-true (passes s n) (parts .0)) (rw e at (stands-passes s q t))
+    elim (cases-lt q n) [
+      | inl below ↦ none-below s n (parts .1) q below t
+      | inr here ↦
+          let e : q ≡ n = omega arith in
+          both-ways (passes s n) (not-true (passes s n) (parts .0)) (rw e at (stands-passes s q t))
     ]
 
 none-stands : (s : List ℕ) → none-passes s (length s) ≡ true → None-stands s
 none-stands s h q t =
-    elim (cases-lt q (length s))
-    [ inl inside ↦ none-below s (length s) h q inside t
-    | inr past ↦ omega (arith, getD-past s q 0 past, t .soh)
+    elim (cases-lt q (length s)) [
+      | inl inside ↦ none-below s (length s) h q inside t
+      | inr past ↦ omega (arith, getD-past s q 0 past, t .soh)
     ]
 
 fits-request : Stands (spec.request 0x61 0xD9) 0
@@ -64,8 +64,8 @@ fits-moved =
 pub telegrams : spec.Telegrams
 unfolding passes none-passes crc updated bits-in bit-in shifted
 telegrams =
-    record
-    { stands = (fits-request, λ q less. absurd (omega arith))
-    ; swapped = none-stands (spec.request 0xD9 0x61) refl
-    ; moved = (fits-moved, none-below (0x01 ∷ spec.request 0x61 0xD9) 1 refl)
+    record {
+      stands = (fits-request, λ q less. absurd (omega arith));
+      swapped = none-stands (spec.request 0xD9 0x61) refl;
+      moved = (fits-moved, none-below (0x01 ∷ spec.request 0x61 0xD9) 1 refl);
     }
