@@ -9,6 +9,8 @@ pub use hex::HexFaultFromRefused;
 pub use hex::Kind;
 pub use hex::classify;
 pub use hex::decode;
+pub use report::BadLine;
+pub use report::BadLineDisplay;
 pub use report::Report;
 pub use report::ReportDisplay;
 pub use tally::Seen;

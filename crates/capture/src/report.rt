@@ -1,4 +1,5 @@
 // What a burst holds, in words.
+use super::hex::HexFault;
 use super::words::Command;
 use super::words::CommandDisplay;
 use super::words::Named;
@@ -126,7 +127,8 @@ fn payload_rows<W: fmt::Write>(f: &mut fmt::Formatter<W>, telegram: &Telegram<'_
     let payload = telegram.payload();
     field(f, payload, "payload")?;
     let count = payload.bytes.len();
-    write!(f, "{count} bytes")?;
+    let noun = if count == 1 { "byte" } else { "bytes" };
+    write!(f, "{count} {noun}")?;
     let rows = Rows {
         bytes: payload.bytes,
         first: payload.position,
@@ -179,6 +181,37 @@ pub impl fmt::Display for Report<'_> as ReportDisplay {
                     "refused, number {number}: {count} bytes are more than the 512 of a burst"
                 )
             }
+        }
+    }
+}
+
+// A line that spells no burst.
+#[derive(Clone, Copy)]
+pub struct BadLine {
+    pub line: u64,
+    pub fault: HexFault,
+}
+
+pub impl fmt::Display for BadLine as BadLineDisplay {
+    fn fmt<W: fmt::Write>(&self, f: &mut fmt::Formatter<W>) -> fmt::Result {
+        let line = self.line;
+        match self.fault {
+            HexFault::NotHex { column, character } => {
+                write!(f, "line {line}, column {column}: ")?;
+                if character.is_ascii_graphic() {
+                    let shown = character as char;
+                    write!(f, "'{shown}' is no hex digit")
+                } else {
+                    write!(f, "the byte {character:02X}h is no hex digit")
+                }
+            }
+            HexFault::HalfByte { column } => {
+                write!(
+                    f,
+                    "line {line}, column {column}: this hex digit has no second one behind it"
+                )
+            }
+            HexFault::OutOfMemory => write!(f, "line {line}: out of memory"),
         }
     }
 }
