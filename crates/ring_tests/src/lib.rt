@@ -8,85 +8,61 @@ mod tests {
     use ring::RingRefusalDebug;
     use std::test::*;
 
-    fn refused<T: Drop>(result: Result<T, RingRefusal>) -> Option<u8> {
+    // The k-th newest after these items.
+    fn newest<T: Copy>(memory: &mut [T], items: &[T], k: usize) -> Result<T, RingRefusal> {
+        let mut ring = Ring::new(memory)?;
+        for item in items {
+            ring.push(*item);
+        }
+        ring.newest(k)
+    }
+
+    // The number of the refusal, or 0 where there was none.
+    fn refused(result: Result<u32, RingRefusal>) -> u8 {
         match result {
-            Ok(_) => None,
-            Err(refusal) => Some(refusal.number()),
+            Ok(_) => 0,
+            Err(refusal) => refusal.number(),
         }
     }
 
     #[test]
     fn keeps_the_latest_samples() -> Result<(), Fail> {
-        let mut memory = [0i32; 3];
-        let mut samples = Ring::new(&mut memory)?;
-        check_eq(samples.len(), 0)?;
-        for sample in [-1, -2, 7, i32::MIN, i32::MAX] {
-            samples.push(sample);
-        }
-        check_eq(samples.len(), 3)?;
-        check_eq(samples.newest(0)?, i32::MAX)?;
-        check_eq(samples.newest(1)?, i32::MIN)?;
-        check_eq(samples.newest(2)?, 7)
-    }
-
-    #[test]
-    fn tells_the_older_samples_before_the_newer() -> Result<(), Fail> {
-        let mut memory = [0i32; 3];
-        let mut samples = Ring::new(&mut memory)?;
-        for sample in [-1, -2, 7, 8] {
-            samples.push(sample);
-        }
-        let (older, newer) = samples.as_slices();
-        check_eq(older, [-2, 7].as_slice())?;
-        check_eq(newer, [8].as_slice())
+        let samples = [-1, -2, 7, i32::MIN, i32::MAX];
+        check(newest(&mut [0; 3], &samples, 0)? == i32::MAX)?;
+        check(newest(&mut [0; 3], &samples, 2)? == 7)?;
+        check(newest(&mut [0; 5], &samples, 4)? == -1)
     }
 
     #[test]
     fn keeps_the_latest_release_word_in_a_memory_of_one() -> Result<(), Fail> {
-        let mut memory = [0u32; 1];
-        let mut words = Ring::new(&mut memory)?;
-        words.push(0x4070_0123);
-        check_eq(words.newest(0)?, 0x4070_0123)?;
-        words.push(0xb070_0123);
-        check_eq(words.len(), 1)?;
-        check_eq(words.newest(0)?, 0xb070_0123)
+        let words = [0x4070_0123, 0xb070_0123];
+        check(newest(&mut [0u32; 1], &words, 0)? == 0xb070_0123)?;
+        check(refused(newest(&mut [0u32; 1], &words, 1)) == 41)
     }
 
     #[test]
-    fn refuses_a_release_word_that_it_does_not_hold() -> Result<(), Fail> {
-        let mut memory = [0u32; 4];
-        let mut words = Ring::new(&mut memory)?;
-        check_eq(refused(words.newest(0)), Some(41))?;
-        words.push(0x4070_0123);
-        check_eq(refused(words.newest(0)), None)?;
-        check_eq(refused(words.newest(1)), Some(41))
+    fn refuses_memory_too_short_or_too_long() -> Result<(), Fail> {
+        check(refused(newest(&mut [], &[7], 0)) == 40)?;
+        check(refused(newest(&mut [0; 4096], &[7], 0)) == 0)?;
+        check(refused(newest(&mut [0; 4097], &[7], 0)) == 40)
     }
 
-    #[test]
-    fn refuses_a_memory_too_short_or_too_long() -> Result<(), Fail> {
-        let mut none = [0u32; 0];
-        check_eq(refused(Ring::new(&mut none)), Some(40))?;
-        let mut most = [0u32; 4096];
-        check_eq(refused(Ring::new(&mut most)), None)?;
-        let mut above = [0u32; 4097];
-        check_eq(refused(Ring::new(&mut above)), Some(40))
-    }
-
-    fn pushed_in_second(memory: &mut [i32], samples: [i32; 3]) -> Option<Marks> {
+    // The marks of the ring in slot 1 of windows of 2, after these samples.
+    fn pushed(memory: &mut [i32], samples: &[i32]) -> Option<Marks> {
         let mut marks = Marks::new();
         for sample in samples {
-            marks = marks.push_in_window(memory, 2, 1, sample)?;
+            marks = marks.push_in_window(memory, 2, 1, *sample)?;
         }
         Some(marks)
     }
 
     #[test]
     fn keeps_windows_apart() -> Result<(), Fail> {
-        let mut memory = [0i32; 4];
-        let second = pushed_in_second(&mut memory, [1, 2, 3]).ok_or("no window")?;
-        check(second.push_in_window(&mut memory, 2, 2, 9).is_none())?;
-        check_eq(memory, [0, 0, 3, 2])?;
+        let mut memory = [0; 4];
+        let marks = pushed(&mut memory, &[1, 2, 3]).ok_or("no window")?;
+        check(memory == [0, 0, 3, 2])?;
         let window = ring::window(&memory, 2, 1).ok_or("no window")?;
-        check_eq(second.newest(window, 1)?, 2)
+        let (older, newer) = marks.as_slices(window);
+        check(older == [2].as_slice() && newer == [3].as_slice())
     }
 }
