@@ -42,6 +42,6 @@ impl Float {
     pub fn to_bits(self) -> u32
         ensures { λ r. ⌜ r ≡ toBits binary32 (self .value) ⌝ }
     {
-        self.value.to_bits()
+        self.get().to_bits()
     }
 }

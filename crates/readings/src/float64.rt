@@ -42,6 +42,6 @@ impl Double {
     pub fn to_bits(self) -> u64
         ensures { λ r. ⌜ r ≡ toBits binary64 (self .value) ⌝ }
     {
-        self.value.to_bits()
+        self.get().to_bits()
     }
 }
