@@ -4,8 +4,8 @@ use mathlib.Core.Path.{_≡_, refl, sym, ap, subst, _∙_}
 use Prim.Native.Nat.{ℕ, _<_, _*_}
 use lib.Dec.{T}
 use lib.Ieee.{Format, fits, isNan, ofBits, toBits, top, Float as Ieee}
-use lib.Ieee.Bits.{ofBits-fits, ofBits-toBits, toBits-ofBits, toBits-lt}
-use Rattle.std.specs.declared.option.Option.the-variants.{Some, None}
+use lib.Ieee.Bits.{ofBits-fits, ofBits-toBits, toBits-ofBits}
+use Rattle.std.specs.declared.option.Option.the-variants.{Some}
 use Rattle.readings.specs.Values.{Maker, fromBits, unless}
 
 T-prop : (b : Bool) (p q : T b) → p ≡ q

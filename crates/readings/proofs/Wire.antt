@@ -1,16 +1,15 @@
 -- What the bytes of a value are read as, and what is written of them. Assumes nothing.
-use Prim.Native.Nat.{ℕ, zero, suc, _+_, _-_, _^_, _≤_, _<_}
-use native.Mathlib.Nat.{sub-zero}
+use Prim.Native.Nat.{ℕ, _+_, _^_, _≤_, _<_}
+use native.Mathlib.Numerals.{one-add}
 use native.Mathlib.Omega.{arith}
 use mathlib.Core.Bool.{Bool, true, false, cond}
-use mathlib.Core.List.{List, [], _∷_, _++_}
+use mathlib.Core.List.{List, [], _∷_}
 use mathlib.Core.Path.{_≡_, refl, sym, ap, subst, _∙_}
 use lib.Dec.{eqb, lit≤}
-use lib.ListN.{length, getD, take, drop, set}
+use lib.ListN.{length, getD, take}
 use mir.Syntax.{w8}
 use mir.Val.{Fits}
 use borrow.Author.Tests.{eq-eqb, eqb-true}
-use borrow.Rule.Slice.PartMut.{putMid}
 use Rattle.std.specs.Options.{okOr}
 use Rattle.std.specs.declared.option.Option.{Option}
 use Rattle.std.specs.declared.option.Option.the-variants.{Some, None}
@@ -19,7 +18,7 @@ use Rattle.readings.specs.declared.kind.Kind.{Kind}
 use Rattle.readings.specs.declared.kind.Kind.the-variants as K
 use Rattle.readings.specs.declared.reading.Reading.{Reading}
 use Rattle.readings.specs.declared.value.Unreadable.the-variants.{NotANumber, WrongLength}
-use Rattle.readings.specs.Bytes.{Reads, Writes, bytesOf, littleEndian, pattern, readAs, readFrom, unpattern, weighed}
+use Rattle.readings.specs.Bytes.{Reads, bytesOf, littleEndian, onWire, pattern, readAs, readFrom, unpattern, weighed}
 use Rattle.readings.specs.Codes.{coding, kindAt, kindCode, kinds, sizeOf}
 use Rattle.readings.specs.Values.{kindOf, valued}
 use Rattle.readings.proofs.LittleEndian.{length-littleEndian, littleEndian-weighed, take-littleEndian, weighed-littleEndian}
@@ -59,17 +58,6 @@ read-own v n e h back =
     ∙ ap (λ (m : ℕ). okOr (valued k (unpattern k m)) NotANumber) (num ∙ sym e)
     ∙ ap (λ (o : Option Reading). okOr o NotANumber) back
 
--- a byte and then others, written to the front of a list
-stamped : (xs ys : List ℕ) (b n : ℕ) → 1 + n ≤ length xs → putMid 1 (1 + n - 1) (set xs 0 b) ys ≡ b ∷ (ys ++ drop (1 + n) xs)
-stamped [] ys b n h = absurd (none n h)
-  where
-    none : (n : ℕ) → 1 + n ≤ 0 → ⊥
-    none n h = omega arith
-stamped (x ∷ xs) ys b n h =
-    let e : suc n - 1 ≡ n = omega arith in
-    let d : 1 + n ≡ suc n = omega arith in
-    simp (e, d)
-
 size-le : (k : Kind) → sizeOf k ≤ 8
 size-le K.U8 = lit≤ tt
 size-le K.I8 = lit≤ tt
@@ -80,15 +68,14 @@ size-le K.I32 = lit≤ tt
 size-le K.F32 = lit≤ tt
 size-le K.F64 = lit≤ tt
 
--- the code and as many of the eight bytes as the type has, written to the front of a buffer
-pub wrote : (v : Reading) (xs ys : List ℕ) (code size n : ℕ) → code ≡ kindCode (kindOf v) → size ≡ sizeOf (kindOf v) → n ≡ pattern v → 1 + size ≤ length xs → ys ≡ take (size - 0) (littleEndian 8 n)
-    → Writes v xs (putMid 1 (1 + size - 1) (set xs 0 code) ys) (Some (1 + size))
-wrote v xs ys code size n c s e h w =
+-- the code and the eight bytes begin with the value as it is written
+pub front : (v : Reading) (code n : ℕ) (bs : List ℕ) → code ≡ kindCode (kindOf v) → n ≡ pattern v → bs ≡ littleEndian 8 n
+    → take (1 + sizeOf (kindOf v)) (code ∷ getD bs 0 0 ∷ getD bs 1 0 ∷ getD bs 2 0 ∷ getD bs 3 0 ∷ getD bs 4 0 ∷ getD bs 5 0 ∷ getD bs 6 0 ∷ getD bs 7 0 ∷ []) ≡ onWire v
+front v code n bs c e w =
     let k = kindOf v in
-    let len = length-littleEndian (sizeOf k) (pattern v) in
-    let cut : ys ≡ bytesOf v =
-    w ∙ ap (λ (m : ℕ). take m (littleEndian 8 n)) (sub-zero size ∙ s) ∙ take-littleEndian (sizeOf k) 8 n (size-le k) ∙ ap (littleEndian (sizeOf k)) e in
-    (omega arith, h, stamped xs ys code size h ∙ cc)
+    let P : List ℕ → Type 0 = λ xs. take (1 + sizeOf k) (code ∷ getD xs 0 0 ∷ getD xs 1 0 ∷ getD xs 2 0 ∷ getD xs 3 0 ∷ getD xs 4 0 ∷ getD xs 5 0 ∷ getD xs 6 0 ∷ getD xs 7 0 ∷ []) ≡ onWire v in
+    let cut : take (sizeOf k) (littleEndian 8 n) ≡ bytesOf v = take-littleEndian (sizeOf k) 8 n (size-le k) ∙ ap (littleEndian (sizeOf k)) e in
+    subst P (sym w) (ap (λ (m : ℕ). take m (code ∷ littleEndian 8 n)) (one-add (sizeOf k)) ∙ cc)
 
 -- what was read has the code and the bytes that it was read from
 pub read-back : (code : ℕ) (bytes : List ℕ) (k : Kind) (v : Reading) (n : ℕ) → Some k ≡ kindAt code → length bytes ≡ sizeOf k → n ≡ weighed bytes → Some v ≡ valued k (unpattern k n) → kindOf v ≡ k → pattern v ≡ n

@@ -1,7 +1,7 @@
-ghost use Prim.Native.Nat.{_≤_, _<_, _^_};
-ghost use lib.ListN.{length};
+ghost use Prim.Native.Nat.{_+_, _≤_, _<_, _^_};
+ghost use lib.ListN.{length, take};
 ghost use mathlib.Core.Path.{_≡_};
-ghost use Rattle.readings.specs.Bytes.{Reads, Writes, bytesOf, pattern, readFrom, unpattern, weighed};
+ghost use Rattle.readings.specs.Bytes.{Reads, Writes, bytesOf, onWire, pattern, readFrom, unpattern, weighed};
 ghost use Rattle.readings.specs.Codes.{kindCode, sizeOf};
 ghost use Rattle.readings.specs.Values.{kindOf, valued};
 ghost use Rattle.std.specs.Slices.{found};
@@ -63,21 +63,30 @@ impl Reading {
         }
     }
 
+    // The type's code and then the value's eight low bytes, more than those that count.
+    fn wire(self) -> [u8; 9]
+        ensures front { λ r. ⌜ take (1 + sizeOf (kindOf self)) r ≡ onWire self ⌝ }
+        ensures len { λ _. ⌜ length (onWire self) ≡ 1 + sizeOf (kindOf self) ⌝ }
+        ensures back { λ _. ⌜ readFrom (kindCode (kindOf self)) (bytesOf self) ≡ Ok self ⌝ }
+    {
+        let code = self.kind().code();
+        let [a, b, c, d, e, f, g, h] = self.pattern().to_le_bytes();
+        [code, a, b, c, d, e, f, g, h]
+    }
+
     // Writes the type's code and then the value's bytes to the front of the buffer, and tells how
     // many they are; None, and nothing written, if they do not fit.
     pub fn write(self, buffer: &mut [u8]) -> Option<usize>
         ensures written { λ r. ⌜ Writes self (now (buffer .entry)) (now (buffer .exit)) r ⌝ }
         ensures back { λ _. ⌜ readFrom (kindCode (kindOf self)) (bytesOf self) ≡ Ok self ⌝ }
     {
-        let kind = self.kind();
-        let size = kind.size();
-        let bytes = self.pattern().to_le_bytes();
-        if buffer.len() < 1 + size {
+        let wire = self.wire();
+        let len = 1 + self.kind().size();
+        if buffer.len() < len {
             return None;
         }
-        buffer[0] = kind.code();
-        buffer[1..1 + size].copy_from_slice(&bytes[0..size]);
-        Some(1 + size)
+        buffer[0..len].copy_from_slice(&wire[0..len]);
+        Some(len)
     }
 
     // The value that a type's code and bytes stand for, or why they stand for none.

@@ -1,6 +1,5 @@
 use mathlib.Core.Path.{refl, sym}
 use lib.Ieee.{binary32, binary64}
-use native.Mathlib.Omega.{arith}
 use Prim.Native.Nat.{_<_}
 use Rattle.readings.specs.Values.{single, double}
 use Rattle.readings.proofs.Floats.{made-from-bits, bits-back}

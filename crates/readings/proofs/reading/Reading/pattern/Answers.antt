@@ -1,5 +1,4 @@
 use mathlib.Core.Path.{ap, _∙_}
-use borrow.Author.Needs.{needs}
 use lib.Ieee.{binary32, binary64}
 use Rattle.readings.specs.Values.{fromBits, single, double}
 use Rattle.readings.proofs.Floats.{made-from-own-bits}
