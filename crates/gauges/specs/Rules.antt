@@ -5,7 +5,7 @@ use mathlib.Core.List.{List, [], _∷_}
 use lib.Dec.{eqb}
 use lib.IntN.{ℤ, pos, natAbs}
 use Rattle.board.specs.Meaning.{Stored, kept, notPuttable, wrongType}
-use Rattle.readings.specs.Outcomes.{codeOf, numberOf, outcomeAt}
+use Rattle.readings.specs.Outcomes.{codeOf, numberOf}
 use Rattle.readings.specs.declared.fault.Fault.the-variants.{InvalidChannel}
 use Rattle.readings.specs.declared.outcome.Outcome.{Outcome}
 use Rattle.readings.specs.declared.outcome.Outcome.the-variants.{Value, Fault}

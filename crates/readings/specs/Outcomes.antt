@@ -1,12 +1,15 @@
 -- An outcome as two whole numbers, its code and its value, and back. Assumes nothing.
 use Prim.Native.Nat.{ℕ}
+use mathlib.Core.Bool.{cond}
 use mathlib.Core.List.{List, [], _∷_}
+use lib.Ieee.{Float, Format, binary32, binary64, isNan, toBits}
 use lib.IntN.{ℤ, pos, natAbs}
 use Rattle.std.specs.declared.option.Option.{Option}
 use Rattle.std.specs.declared.option.Option.the-variants.{Some, None}
 use Rattle.readings.specs.declared.fault.Fault.{Fault}
 use Rattle.readings.specs.declared.fault.Fault.the-variants.{CalcError, InvalidChannel}
 use Rattle.readings.specs.declared.kind.Kind.{Kind}
+use Rattle.readings.specs.declared.kind.Kind.the-variants.{F32, F64}
 use Rattle.readings.specs.declared.outcome.Outcome.{Outcome}
 use Rattle.readings.specs.declared.outcome.Outcome.the-variants as O
 use Rattle.readings.specs.declared.reading.Reading.{Reading}
@@ -21,6 +24,14 @@ counted None = O.Fault CalcError
 -- the outcome that a whole number brings: an integer's own value, a float's bits
 abbrev pub measured : Kind → ℤ → Outcome
 measured k z = counted (valued k z)
+
+abbrev pub kindFor : Format → Kind
+kindFor binary32 = F32
+kindFor binary64 = F64
+
+-- the outcome that a float brings
+abbrev pub fromFloat : Format → Float → Outcome
+fromFloat f x = cond (isNan x) (O.Fault CalcError) (measured (kindFor f) (pos (toBits f x)))
 
 -- the code of the value's type, or of the fault: no fault has a type's code
 abbrev pub codeOf : Outcome → ℕ

@@ -2,7 +2,7 @@ ghost use mathlib.Core.Path.{_≡_};
 ghost use Rattle.readings.specs.Codes.{kindAt, kindCode, sizeOf};
 
 // The type of a value.
-#[derive(Clone, Copy)]
+#[derive(Clone, Copy, PartialEq)]
 pub enum Kind {
     U8,
     I8,

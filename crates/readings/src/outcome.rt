@@ -1,14 +1,12 @@
-ghost use lib.Ieee.{binary32, binary64, toBits};
+ghost use lib.Ieee.{binary32, binary64};
 ghost use lib.IntN.{pos, ℤ};
 ghost use mathlib.Core.List.{List, _++_};
 ghost use mathlib.Core.Path.{_≡_};
-ghost use Rattle.readings.specs.Outcomes.{codeOf, coded, counted, decoded, measured};
+ghost use Rattle.readings.specs.Outcomes.{codeOf, coded, counted, decoded, fromFloat, measured};
 ghost use Rattle.readings.specs.declared.kind.Kind.the-variants.{F32, F64};
 use crate::fault::Fault;
 use crate::kind::Kind;
 use crate::reading::Reading;
-use std::num::f32_to_bits_with_nan;
-use std::num::f64_to_bits_with_nan;
 
 // What a channel shows: a value, or the fault for which it has none.
 // No outcome holds a float that is not a number: one that is brought counts as fault 56h.
@@ -20,15 +18,23 @@ pub enum Outcome {
 
 impl Outcome {
     pub fn from_f32(x: f32) -> Outcome
-        ensures { λ r. ⌜ r ≡ measured F32 (pos (toBits binary32 x)) ⌝ }
+        ensures { λ r. ⌜ r ≡ fromFloat binary32 x ⌝ }
     {
-        Outcome::from_f32_bits(f32_to_bits_with_nan(x))
+        if x.is_nan() {
+            Outcome::Fault(Fault::CalcError)
+        } else {
+            Outcome::from_f32_bits(x.to_bits())
+        }
     }
 
     pub fn from_f64(x: f64) -> Outcome
-        ensures { λ r. ⌜ r ≡ measured F64 (pos (toBits binary64 x)) ⌝ }
+        ensures { λ r. ⌜ r ≡ fromFloat binary64 x ⌝ }
     {
-        Outcome::from_f64_bits(f64_to_bits_with_nan(x))
+        if x.is_nan() {
+            Outcome::Fault(Fault::CalcError)
+        } else {
+            Outcome::from_f64_bits(x.to_bits())
+        }
     }
 
     pub fn from_f32_bits(bits: u32) -> Outcome
