@@ -1,15 +1,12 @@
 -- A value as one whole number, and back. Assumes nothing.
 use Prim.Native.Nat.{ℕ}
 use mathlib.Core.Bool.{Bool, true, false, not}
-use mathlib.Core.Path.{_≡_}
 use lib.Dec.{T}
 use lib.IntN.{ℤ, pos, natAbs}
 use lib.Ieee.{Format, binary32, binary64, fits, isNan, ofBits, toBits, Float as Ieee}
 use lib.Ieee.Bits.{ofBits-fits}
 use Rattle.std.specs.declared.option.Option.{Option}
 use Rattle.std.specs.declared.option.Option.the-variants.{Some, None}
-use Rattle.readings.specs.declared.float32.Float.{Float}
-use Rattle.readings.specs.declared.float64.Double.{Double}
 use Rattle.readings.specs.declared.kind.Kind.{Kind}
 use Rattle.readings.specs.declared.kind.Kind.the-variants as K
 use Rattle.readings.specs.declared.reading.Reading.{Reading}
