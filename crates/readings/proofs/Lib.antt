@@ -1,0 +1,4 @@
+pub mod Coded
+pub mod Floats
+pub mod LittleEndian
+pub mod Wire
