@@ -66,7 +66,13 @@ fn run(rt: &LibcRuntime) -> Result<(), AnyError> {
     let mut args = env::args(rt)?;
     let _program = args.next();
     match args.next() {
-        Some(path) => scan(rt, BufReader::new(File::open(rt, path.as_str())?)),
+        Some(path) => match File::open(rt, path.as_str()) {
+            Ok(file) => scan(rt, BufReader::new(file)),
+            Err(cause) => {
+                let message = format!(rt.alloc(), "cannot read {path}: {cause}")?;
+                Err(message.into())
+            }
+        },
         None => scan(rt, BufReader::new(rt.stdin())),
     }
 }
