@@ -1,15 +1,15 @@
 // Reads a capture of the bus and tells what stands in each burst.
 use burst::read;
-use capture::BadLine;
-use capture::BadLineDisplay;
 use capture::HexFault;
-use capture::Report;
-use capture::ReportDisplay;
 use capture::Seen;
 use capture::Tally;
 use capture::TallyDisplay;
 use capture::decode;
 use capture::sort_of;
+use report::BadLine;
+use report::BadLineDisplay;
+use report::Report;
+use report::ReportDisplay;
 use std::env;
 use std::error::AnyError;
 use std::fs::File;

@@ -1,5 +1,4 @@
 // What a burst holds, in words.
-use super::hex::HexFault;
 use super::words::Command;
 use super::words::CommandDisplay;
 use super::words::Named;
@@ -7,6 +6,7 @@ use super::words::NamedDisplay;
 use burst::Layer;
 use burst::LineFault;
 use burst::ReadFault;
+use capture::HexFault;
 use std::fmt;
 use telegram::Part;
 use telegram::Telegram;

@@ -1,0 +1,5 @@
+// What a station answers.
+mod online;
+mod record;
+
+pub use record::Record;
