@@ -4,7 +4,7 @@ ghost use mathlib.Core.List.{[], _++_};
 ghost use mathlib.Core.Path.{_≡_};
 ghost use Prim.Native.Nat.{_+_, _≤_, _<_};
 ghost use lib.Dec.{leb};
-ghost use lib.ListN.{length};
+ghost use lib.ListN.{length, getD};
 ghost use Rattle.payload.specs.Spelled.{spelled, Appended};
 
 mod bytes;
@@ -27,6 +27,13 @@ impl Payload {
         ensures { λ r. ⌜ r ≡ length (spelled (now (self .entry))) ⌝ ∗ ⌜ r ≤ 210 ⌝ }
     {
         self.len
+    }
+
+    // The first byte, which is the status in a reply; 0 where there is none.
+    pub fn status(&self) -> u8
+        ensures { λ r. ⌜ r ≡ getD (spelled (now (self .entry))) 0 0 ⌝ }
+    {
+        if self.len == 0 { 0 } else { self.bytes[0] }
     }
 
     // The bytes so far.

@@ -5,10 +5,13 @@ use mathlib.Core.List.{List, [], _∷_}
 use Prim.Native.Nat.{ℕ, _+_, _-_, _^_, min}
 use lib.Dec.{eqb}
 use lib.ListN.{drop}
-use Rattle.board.specs.Meaning.{Share, Stored}
+use mathlib.Core.Path.{_≡_}
+use Rattle.board.specs.Meaning.{Share, Stored, Same, SameBut}
 use Rattle.readings.specs.Bytes.{littleEndian, weighed}
 use Rattle.readings.specs.declared.outcome.Outcome.{Outcome}
 use Rattle.telegram.specs.Layout.{at, word, Frame}
+use Rattle.station.specs.declared.record.Record.{Record}
+use Rattle.station.specs.declared.record.StationLine.{StationLine}
 use Rattle.station.specs.Replies as replies
 
 -- what a board's make knows: its three rules
@@ -29,6 +32,19 @@ pub record Station : Type 0 where
   pub settings : List ℕ
   -- its share of the board
   pub share : Share
+
+-- the station that a line, a record, a window and a share make
+abbrev pub station-of : StationLine → Record → List ℕ → Share → Station
+station-of line rec window share =
+    record
+    { address = line .address .0
+    ; protected = line .protected
+    ; clock = rec .clock
+    ; condition = rec .condition
+    ; last = rec .last
+    ; settings = window
+    ; share = share
+    }
 
 -- a reply's payload, and the station after it
 pub record Answer : Type 0 where
@@ -110,3 +126,16 @@ noted a = record { payload = a .payload; after = with-last (a .after) (at (a .pa
 -- WHAT A STATION ANSWERS to a telegram that is addressed to it
 abbrev pub answered : Rules → Station → Frame → Answer
 answered R st f = noted (judged R st f)
+
+-- What a call does that answers for the station in a slot: the reply and the station afterwards are those of the answer,
+-- and every other share stays.
+pub record Became (answer : Answer) (payload : List ℕ) (after : Station) (slot : ℕ) (shares shares′ : ℕ → Share) : Type 0 where
+  pub replied : payload ≡ answer .payload
+  pub turned : after ≡ answer .after
+  pub others : SameBut slot shares shares′
+
+-- what a call does that finds no such slot
+pub record Unchanged (rec rec′ : Record) (window window′ : List ℕ) (held held′ : ℕ → Share) : Type 0 where
+  pub records : rec′ ≡ rec
+  pub settings : window′ ≡ window
+  pub shares : Same held held′
