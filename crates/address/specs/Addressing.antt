@@ -1,8 +1,9 @@
--- The manual's clause "Addressing with Class- and Device-ID": an address is a number of 16 bits.
+-- The manual's clause "Addressing with Class- and Device-ID": an address is a number of 16 bits. Each rule is a test.
 -- Assumes nothing.
+use mathlib.Core.Bool.{Bool, _&&_, _||_, not, true}
 use mathlib.Core.Path.{_≡_}
-use mathlib.Core.Logic.{_⊎_}
-use Prim.Native.Nat.{ℕ, _/_, _%_, _≤_}
+use Prim.Native.Nat.{ℕ, _/_, _%_}
+use lib.Dec.{eqb, leb}
 use Rattle.address.specs.declared.Role.{Role}
 use Rattle.address.specs.declared.Role.the-variants.{OfStation, OfController, ToAll, ToClass, OfNobody}
 
@@ -19,30 +20,29 @@ abbrev pub id : ℕ → ℕ
 id a = a % 256
 
 -- the classes 1 to 14 are those of stations; 0 is the broadcast's, 15 the controllers'
-abbrev pub Station-class : ℕ → Type 0
-Station-class a = (1 ≤ class a) × (class a ≤ 14)
+abbrev pub of-station-class : ℕ → Bool
+of-station-class a = leb 1 (class a) && leb (class a) 14
 
-abbrev pub Station : ℕ → Type 0
-Station a = Station-class a × (reserve a ≡ 0) × (1 ≤ id a)
+abbrev pub station : ℕ → Bool
+station a = of-station-class a && eqb (reserve a) 0 && leb 1 (id a)
 
-abbrev pub Controller : ℕ → Type 0
-Controller a = (class a ≡ 15) × (reserve a ≡ 0) × (1 ≤ id a)
+abbrev pub controller : ℕ → Bool
+controller a = eqb (class a) 15 && eqb (reserve a) 0 && leb 1 (id a)
 
-abbrev pub Broadcast-to-all : ℕ → Type 0
-Broadcast-to-all a = a ≡ 0
+abbrev pub broadcast-to-all : ℕ → Bool
+broadcast-to-all a = eqb a 0
 
-abbrev pub Broadcast-to-class : ℕ → Type 0
-Broadcast-to-class a = Station-class a × (reserve a ≡ 0) × (id a ≡ 0)
+abbrev pub broadcast-to-class : ℕ → Bool
+broadcast-to-class a = of-station-class a && eqb (reserve a) 0 && eqb (id a) 0
 
 -- the broadcast to all reaches every station, the one to a class the stations of that class
-abbrev pub Reaches : ℕ → ℕ → Type 0
-Reaches a s = Station s × (Broadcast-to-all a ⊎ (Broadcast-to-class a × (class a ≡ class s)))
+abbrev pub reaches : ℕ → ℕ → Bool
+reaches a s = station s && (broadcast-to-all a || (broadcast-to-class a && eqb (class a) (class s)))
 
 -- what an address is used for
 abbrev pub Has-role : ℕ → Role → Type 0
-Has-role a OfStation = Station a
-Has-role a OfController = Controller a
-Has-role a ToAll = Broadcast-to-all a
-Has-role a ToClass = Broadcast-to-class a
-Has-role a OfNobody =
-    (Station a → ⊥) × (Controller a → ⊥) × (Broadcast-to-all a → ⊥) × (Broadcast-to-class a → ⊥)
+Has-role a OfStation = station a ≡ true
+Has-role a OfController = controller a ≡ true
+Has-role a ToAll = broadcast-to-all a ≡ true
+Has-role a ToClass = broadcast-to-class a ≡ true
+Has-role a OfNobody = not (station a || controller a || broadcast-to-all a || broadcast-to-class a) ≡ true

@@ -1,7 +1,6 @@
 // Addresses on the Universal Measurement Bus. Each rule stands once, as a definition and as a function.
 ghost use mathlib.Core.Path.{_≡_};
-ghost use Rattle.std.specs.Orderings.{When};
-ghost use Rattle.address.specs.Addressing.{Station-class, class, reserve, id, Station, Controller, Broadcast-to-all, Broadcast-to-class, Reaches, Has-role};
+ghost use Rattle.address.specs.Addressing.{class, reserve, id, of-station-class, station, controller, broadcast-to-all, broadcast-to-class, reaches, Has-role};
 
 // What an address is used for.
 #[derive(Clone, Copy)]
@@ -37,46 +36,46 @@ impl Address {
     }
 
     fn has_station_class(self) -> bool
-        ensures { λ r. ⌜ When r (Station-class (self .0)) (Station-class (self .0) → ⊥) ⌝ }
+        ensures { λ r. ⌜ r ≡ of-station-class (self .0) ⌝ }
     {
         1 <= self.class() && self.class() <= 14
     }
 
     pub fn is_station(self) -> bool
-        ensures { λ r. ⌜ When r (Station (self .0)) (Station (self .0) → ⊥) ⌝ }
+        ensures { λ r. ⌜ r ≡ station (self .0) ⌝ }
     {
         self.has_station_class() && self.reserve() == 0 && 1 <= self.id()
     }
 
     pub fn is_controller(self) -> bool
-        ensures { λ r. ⌜ When r (Controller (self .0)) (Controller (self .0) → ⊥) ⌝ }
+        ensures { λ r. ⌜ r ≡ controller (self .0) ⌝ }
     {
         self.class() == 15 && self.reserve() == 0 && 1 <= self.id()
     }
 
     pub fn is_broadcast_to_all(self) -> bool
-        ensures { λ r. ⌜ When r (Broadcast-to-all (self .0)) (Broadcast-to-all (self .0) → ⊥) ⌝ }
+        ensures { λ r. ⌜ r ≡ broadcast-to-all (self .0) ⌝ }
     {
         self.0 == 0
     }
 
     pub fn is_broadcast_to_class(self) -> bool
-        ensures { λ r. ⌜ When r (Broadcast-to-class (self .0)) (Broadcast-to-class (self .0) → ⊥) ⌝ }
+        ensures { λ r. ⌜ r ≡ broadcast-to-class (self .0) ⌝ }
     {
         self.has_station_class() && self.reserve() == 0 && self.id() == 0
     }
 
-    // Whether a telegram to `self` is a broadcast that `station` hears.
-    pub fn reaches(self, station: Address) -> bool
-        ensures { λ r. ⌜ When r (Reaches (self .0) (station .0)) (Reaches (self .0) (station .0) → ⊥) ⌝ }
+    // Whether a telegram to `self` is a broadcast that the station `to` hears.
+    pub fn reaches(self, to: Address) -> bool
+        ensures { λ r. ⌜ r ≡ reaches (self .0) (to .0) ⌝ }
     {
-        if !station.is_station() {
+        if !to.is_station() {
             return false;
         }
         if self.is_broadcast_to_all() {
             return true;
         }
-        self.is_broadcast_to_class() && self.class() == station.class()
+        self.is_broadcast_to_class() && self.class() == to.class()
     }
 
     pub fn role(self) -> Role

@@ -36,14 +36,14 @@ pub record Station : Type 0 where
 -- the station that a line, a record, a window and a share make
 abbrev pub station-of : StationLine → Record → List ℕ → Share → Station
 station-of line rec window share =
-    record
-    { address = line .address .0
-    ; protected = line .protected
-    ; clock = rec .clock
-    ; condition = rec .condition
-    ; last = rec .last
-    ; settings = window
-    ; share = share
+    record {
+      address = line .address .0;
+      protected = line .protected;
+      clock = rec .clock;
+      condition = rec .condition;
+      last = rec .last;
+      settings = window;
+      share = share;
     }
 
 -- a reply's payload, and the station after it

@@ -43,7 +43,12 @@ fn tell_time(clock: u32, payload: &[u8]) -> Payload
     let second = clock / 256;
     let third = second / 256;
     let fourth = third / 256;
-    let bytes = [(clock % 256) as u8, (second % 256) as u8, (third % 256) as u8, (fourth % 256) as u8];
+    let bytes = [
+        (clock % 256) as u8,
+        (second % 256) as u8,
+        (third % 256) as u8,
+        (fourth % 256) as u8,
+    ];
     tell(&bytes, payload)
 }
 
@@ -67,11 +72,23 @@ fn judge_restart(payload: &[u8]) -> Payload
     if payload.len() != 1 {
         return alone(0x11);
     }
-    if payload[0] == 0x10 { alone(0x00) } else { alone(0x15) }
+    if payload[0] == 0x10 {
+        alone(0x00)
+    } else {
+        alone(0x15)
+    }
 }
 
 // What each of the nine commands does.
-fn command<B: Board>(line: StationLine, state: &mut Record, window: &mut [u8], board: &mut B, slot: usize, code: u8, payload: &[u8]) -> Payload
+fn command<B: Board>(
+    line: StationLine,
+    state: &mut Record,
+    window: &mut [u8],
+    board: &mut B,
+    slot: usize,
+    code: u8,
+    payload: &[u8],
+) -> Payload
     requires { ⌜ slot < count (now board) ⌝ }
     ensures same { λ _. ⌜ count (now (board .exit)) ≡ count (now (board .entry)) ⌝ }
     ensures became { λ r. ⌜ model.Became (model.command (record { tells = tells; stored = stored; restarted = restarted }) (model.station-of line (now (state .entry)) (now (window .entry)) (share (now (board .entry)) slot)) code (now (payload .entry))) (spelled r) (model.station-of line (now (state .exit)) (now (window .exit)) (share (now (board .exit)) slot)) slot (share (now (board .entry))) (share (now (board .exit))) ⌝ }
@@ -105,7 +122,14 @@ fn is_known(code: u8) -> bool
 }
 
 // The first status that fits.
-fn judge<B: Board>(line: StationLine, state: &mut Record, window: &mut [u8], board: &mut B, slot: usize, fields: &Fields<'_>) -> Payload
+fn judge<B: Board>(
+    line: StationLine,
+    state: &mut Record,
+    window: &mut [u8],
+    board: &mut B,
+    slot: usize,
+    fields: &Fields<'_>,
+) -> Payload
     requires { ⌜ slot < count (now board) ⌝ }
     ensures same { λ _. ⌜ count (now (board .exit)) ≡ count (now (board .entry)) ⌝ }
     ensures became { λ r. ⌜ model.Became (model.judged (record { tells = tells; stored = stored; restarted = restarted }) (model.station-of line (now (state .entry)) (now (window .entry)) (share (now (board .entry)) slot)) (frame (now (fields .entry)))) (spelled r) (model.station-of line (now (state .exit)) (now (window .exit)) (share (now (board .exit)) slot)) slot (share (now (board .entry))) (share (now (board .exit))) ⌝ }
@@ -119,12 +143,27 @@ fn judge<B: Board>(line: StationLine, state: &mut Record, window: &mut [u8], boa
     if fields.command_version != 0x10 {
         return alone(0x13);
     }
-    command(line, state, window, board, slot, fields.command, fields.payload)
+    command(
+        line,
+        state,
+        window,
+        board,
+        slot,
+        fields.command,
+        fields.payload,
+    )
 }
 
 // What the station of this line answers to a telegram that is addressed to it; its window of the memory, its record and
 // its slot of the board change as the answer says. None, and nothing changes, where the board has no such slot.
-pub fn respond<B: Board>(line: StationLine, state: &mut Record, window: &mut [u8], board: &mut B, slot: usize, fields: &Fields<'_>) -> Option<Payload>
+pub fn respond<B: Board>(
+    line: StationLine,
+    state: &mut Record,
+    window: &mut [u8],
+    board: &mut B,
+    slot: usize,
+    fields: &Fields<'_>,
+) -> Option<Payload>
     ensures same { λ _. ⌜ count (now (board .exit)) ≡ count (now (board .entry)) ⌝ }
     ensures none { λ r. ⌜ isSome r ≡ ltb slot (count (now (board .entry))) ⌝ }
     ensures became { λ r. ⌜ BySome r (Unchanged (now (state .entry)) (now (state .exit)) (now (window .entry)) (now (window .exit)) (share (now (board .entry))) (share (now (board .exit)))) (λ p. model.Became (model.answered (record { tells = tells; stored = stored; restarted = restarted }) (model.station-of line (now (state .entry)) (now (window .entry)) (share (now (board .entry)) slot)) (frame (now (fields .entry)))) (spelled p) (model.station-of line (now (state .exit)) (now (window .exit)) (share (now (board .exit)) slot)) slot (share (now (board .entry))) (share (now (board .exit)))) ⌝ }

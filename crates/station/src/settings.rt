@@ -12,6 +12,7 @@ use crate::online::limited;
 use payload::Payload;
 
 const LONGEST_READ: u8 = 200;
+
 const LONGEST_WRITE: u8 = 64;
 
 // "Read Out EEPROM (21h)".

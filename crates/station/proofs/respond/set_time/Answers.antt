@@ -7,9 +7,9 @@ use Rattle.station.proofs.respond.set_time.Needs as need
 
 pub returns : need.returns
 returns c =
-    record
-    { replied = search needs
-    ; after =
-        weighed-four (c .args .payload .now) (search needs)
-        ∙ well (spelled (c .alone-2 .result)) (weighed (c .args .payload .now)) (c .args .clock .now) (c .alone-2 .ensures)
+    record {
+      replied = search needs;
+      after =
+          weighed-four (c .args .payload .now) (search needs)
+          ∙ well (spelled (c .alone-2 .result)) (weighed (c .args .payload .now)) (c .args .clock .now) (c .alone-2 .ensures);
     }

@@ -16,9 +16,9 @@ returns c =
     let p : List ℕ = c .args .payload .now in
     let window : List ℕ = c .args .window .now in
     let copied = c .copy-from-slice .ensures .after ∙ take-rest p 3 in
-    record
-    { replied = search needs
-    ; after =
-        put-over window (drop 3 p) (c .copy-from-slice .last .self) (word p 0) _ copied (simp length-drop (omega arith))
-        ∙ well (spelled (c .alone-2 .result)) (overwritten window (word p 0) (drop 3 p)) window (c .alone-2 .ensures)
+    record {
+      replied = search needs;
+      after =
+          put-over window (drop 3 p) (c .copy-from-slice .last .self) (word p 0) _ copied (simp length-drop (omega arith))
+          ∙ well (spelled (c .alone-2 .result)) (overwritten window (word p 0) (drop 3 p)) window (c .alone-2 .ensures);
     }
