@@ -1,13 +1,13 @@
 -- What a put on the first record of a slot's channel makes of the shares. Assumes nothing.
-use Prim.Native.Nat.{ℕ, zero, suc, _≤_, _<_}
+use Prim.Native.Nat.{ℕ, zero, suc}
 use native.Mathlib.Nat.{le-of-suc-le-suc}
 use native.Mathlib.Omega.{arith}
 use mathlib.Core.Bool.{Bool, true, false, cond}
 use mathlib.Core.List.{List, [], _∷_, _++_}
 use mathlib.Core.Path.{_≡_, refl, sym, ap, subst, _∙_}
 use lib.Dec.{eqb}
-use lib.IntN.{ℤ, natAbs}
-use lib.ListN.{length, getD, set}
+use lib.IntN.{natAbs}
+use lib.ListN.{getD, set}
 use Rattle.std.proofs.shelf.Lists.{getD-default}
 use Rattle.std.proofs.shelf.Tests.{eq-eqb, ne-eqb, eqb-true, true≢false}
 use Rattle.std.specs.declared.result.Result.the-variants.{Ok, Err}
@@ -19,7 +19,7 @@ use Rattle.readings.specs.declared.outcome.Outcome.{Outcome}
 use Rattle.readings.specs.declared.outcome.Outcome.the-variants.{Fault}
 use Rattle.table.specs.declared.record.Record.{Record}
 use Rattle.table.specs.Records.{First, Missing, at, isAbsent, isOfType}
-use Rattle.table.specs.Shares.{Replaced, behind, replaced, shareOf, tableStored, written}
+use Rattle.table.specs.Shares.{Replaced, behind, shareOf, tableStored, written}
 use Rattle.table.proofs.Looks.{none}
 
 -- the record with another outcome
@@ -81,7 +81,7 @@ stored-missing [] slot channel o h = refl
 stored-missing (r ∷ rs) slot channel o h =
     missing-past r rs slot channel o (h .nowhere 0 (omega arith)) (stored-missing rs slot channel o (record { nowhere = λ k l. h .nowhere (suc k) (omega arith) }))
 
--- a record of another slot is in none but its own share
+-- a record stands in no share but its own slot's
 share-other : (rs : List Record) (i k : ℕ) (o : Outcome) → (k ≡ at rs i .slot → ⊥) → shareOf k (set rs i (with (at rs i) o)) ≡ shareOf k rs
 share-other [] i k o other = refl
 share-other (r ∷ rs) zero k o other =
