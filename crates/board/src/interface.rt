@@ -28,12 +28,11 @@ pub trait Board {
     // The share after a restart.
     ghost restarted: { List ℤ → List ℤ };
 
-    // A channel cannot be put to fault 24h, which says that there is no such channel.
-    law invalid: { (kept : List ℤ) (channel : ℕ) → Refuses (stored kept channel (Fault InvalidChannel)) };
-
-    // The count of slots.
+    // The count of slots. The rule of a put refuses fault 24h, which says that there is no such
+    // channel; this is a clause and no law, since a board over lent memory can answer no law.
     fn slots(&self) -> usize
-        ensures { λ r. ⌜ r ≡ count (now (self .entry)) ⌝ };
+        ensures told { λ r. ⌜ r ≡ count (now (self .entry)) ⌝ }
+        ensures invalid { λ _. ⌜ ((kept : List ℤ) (channel : ℕ) → Refuses (stored kept channel (Fault InvalidChannel))) ⌝ };
 
     // The outcome that a slot's channel shows, fault 24h beyond the slots.
     fn look(&self, slot: usize, channel: u16) -> Outcome
