@@ -28,21 +28,22 @@ pub trait Board {
     // The share after a restart.
     ghost restarted: { List ℤ → List ℤ };
 
-    // The count of slots. The rule of a put refuses fault 24h, which says that there is no such
-    // channel; this is a clause and no law, since a board over lent memory can answer no law.
+    // The count of slots.
     fn slots(&self) -> usize
-        ensures told { λ r. ⌜ r ≡ count (now (self .entry)) ⌝ }
-        ensures invalid { λ _. ⌜ ((kept : List ℤ) (channel : ℕ) → Refuses (stored kept channel (Fault InvalidChannel))) ⌝ };
+        ensures { λ r. ⌜ r ≡ count (now (self .entry)) ⌝ };
 
     // The outcome that a slot's channel shows, fault 24h beyond the slots.
     fn look(&self, slot: usize, channel: u16) -> Outcome
         ensures { λ r. ⌜ Looked tells (count (now (self .entry))) (share (now (self .entry))) slot channel r ⌝ };
 
     // Stores an outcome on a slot's channel by the rule. Every other share stays, and all of them
-    // if the put is refused; beyond the slots it is refused.
+    // if the put is refused; beyond the slots it is refused. The rule refuses fault 24h, which says
+    // that there is no such channel, for every share and channel. (This is a clause and no law of
+    // the trait, since the toolchain proves no law for a board over lent memory.)
     fn put(&mut self, slot: usize, channel: u16, outcome: Outcome) -> Result<(), PutRefusal>
         ensures same { λ _. ⌜ count (now (self .exit)) ≡ count (now (self .entry)) ⌝ }
-        ensures after { λ r. ⌜ Put stored (count (now (self .entry))) (share (now (self .entry))) (share (now (self .exit))) slot channel outcome r ⌝ };
+        ensures after { λ r. ⌜ Put stored (count (now (self .entry))) (share (now (self .entry))) (share (now (self .exit))) slot channel outcome r ⌝ }
+        ensures invalid { λ _. ⌜ ((kept : List ℤ) (channel : ℕ) → Refuses (stored kept channel (Fault InvalidChannel))) ⌝ };
 
     // Restarts a slot by the rule. Every other share stays; beyond the slots nothing is done.
     fn restart(&mut self, slot: usize)

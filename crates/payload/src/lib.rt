@@ -26,7 +26,7 @@ impl Payload {
     pub fn len(&self) -> usize
         ensures { λ r. ⌜ r ≡ length (spelled (now (self .entry))) ⌝ ∗ ⌜ r ≤ 210 ⌝ }
     {
-        self.len
+        self.as_slice().len()
     }
 
     // The first byte, which is the status in a reply; 0 where there is none.

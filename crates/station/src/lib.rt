@@ -1,9 +1,9 @@
 // What a station answers.
 mod online;
 mod record;
-mod respond;
+mod responder;
 mod settings;
 
 pub use record::Record;
 pub use record::StationLine;
-pub use respond::respond as answer;
+pub use responder::respond;

@@ -3,7 +3,7 @@ use borrow.Author.Needs.{needs}
 use Rattle.payload.specs.Spelled.{spelled}
 use Rattle.readings.specs.Bytes.{weighed}
 use Rattle.station.proofs.Over.{well, weighed-four}
-use Rattle.station.proofs.respond.set_time.Needs as need
+use Rattle.station.proofs.responder.set_time.Needs as need
 
 pub returns : need.returns
 returns c =
