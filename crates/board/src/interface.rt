@@ -28,9 +28,6 @@ pub trait Board {
     // The share after a restart.
     ghost restarted: { List ℤ → List ℤ };
 
-    // A channel cannot be put to fault 24h, which says that there is no such channel.
-    law invalid: { (kept : List ℤ) (channel : ℕ) → Refuses (stored kept channel (Fault InvalidChannel)) };
-
     // The count of slots.
     fn slots(&self) -> usize
         ensures { λ r. ⌜ r ≡ count (now (self .entry)) ⌝ };
@@ -40,10 +37,12 @@ pub trait Board {
         ensures { λ r. ⌜ Looked tells (count (now (self .entry))) (share (now (self .entry))) slot channel r ⌝ };
 
     // Stores an outcome on a slot's channel by the rule. Every other share stays, and all of them
-    // if the put is refused; beyond the slots it is refused.
+    // if the put is refused; beyond the slots it is refused. The rule refuses fault 24h, which says
+    // that there is no such channel, for every share and channel.
     fn put(&mut self, slot: usize, channel: u16, outcome: Outcome) -> Result<(), PutRefusal>
         ensures same { λ _. ⌜ count (now (self .exit)) ≡ count (now (self .entry)) ⌝ }
-        ensures after { λ r. ⌜ Put stored (count (now (self .entry))) (share (now (self .entry))) (share (now (self .exit))) slot channel outcome r ⌝ };
+        ensures after { λ r. ⌜ Put stored (count (now (self .entry))) (share (now (self .entry))) (share (now (self .exit))) slot channel outcome r ⌝ }
+        ensures invalid { λ _. ⌜ ((kept : List ℤ) (channel : ℕ) → Refuses (stored kept channel (Fault InvalidChannel))) ⌝ };
 
     // Restarts a slot by the rule. Every other share stays; beyond the slots nothing is done.
     fn restart(&mut self, slot: usize)
