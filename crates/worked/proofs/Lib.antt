@@ -1,1 +1,2 @@
+pub mod Statistics
 pub mod Telegrams

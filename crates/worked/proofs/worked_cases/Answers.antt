@@ -1,6 +1,7 @@
 use mathlib.Core.Path.{refl}
+use Rattle.worked.proofs.Statistics.{statistics}
 use Rattle.worked.proofs.Telegrams.{telegrams}
 use Rattle.worked.proofs.worked_cases.Needs as need
 
 pub returns : need.returns
-returns c = record { worked = telegrams; counted = refl }
+returns c = record { worked = (telegrams, statistics); counted = refl }
