@@ -49,13 +49,13 @@ none-stands s h q t =
       | inr past ↦ omega (arith, getD-past s q 0 past, t .soh)
     ]
 
-fits-request : Stands (spec.request 0x61 0xD9) 0
+fits-request : Stands (spec.frame 0x61 0xD9) 0
 unfolding crc updated bits-in bit-in shifted
 fits-request =
     record
     { soh = refl; least = lit≤ tt; most = lit≤ tt; whole = lit≤ tt; stx = refl; etx = refl; eot = refl; checked = refl }
 
-fits-moved : Stands (0x01 ∷ spec.request 0x61 0xD9) 1
+fits-moved : Stands (0x01 ∷ spec.frame 0x61 0xD9) 1
 unfolding crc updated bits-in bit-in shifted
 fits-moved =
     record
@@ -66,6 +66,6 @@ unfolding passes none-passes crc updated bits-in bit-in shifted
 telegrams =
     record {
       stands = (fits-request, λ q less. absurd (omega arith));
-      swapped = none-stands (spec.request 0xD9 0x61) refl;
-      moved = (fits-moved, none-below (0x01 ∷ spec.request 0x61 0xD9) 1 refl);
+      swapped = none-stands (spec.frame 0xD9 0x61) refl;
+      moved = (fits-moved, none-below (0x01 ∷ spec.frame 0x61 0xD9) 1 refl);
     }
