@@ -1,6 +1,6 @@
 -- THE MODEL STATION: what one station answers, and what becomes of it, from its own state and the board's rules alone.
 -- Neither the slot's number nor the place of its window in the memory occurs here. Assumes nothing.
-use mathlib.Core.Bool.{Bool, true, false, cond, not, _||_}
+use mathlib.Core.Bool.{Bool, true, false, cond, not, _||_, _&&_}
 use mathlib.Core.List.{List, [], _∷_}
 use Prim.Native.Nat.{ℕ, _+_, _-_, _^_, min}
 use lib.Dec.{eqb}
@@ -139,3 +139,13 @@ pub record Unchanged (rec rec′ : Record) (window window′ : List ℕ) (held h
   pub records : rec′ ≡ rec
   pub settings : window′ ≡ window
   pub shares : Same held held′
+
+-- WHAT A STATION DOES ON A BROADCAST that reaches it: with both versions 10h, a restart or a new time with a right payload
+-- acts, and nothing else does. It draws no reply, and leaves the last status, but that a restart sets it to 00h.
+abbrev pub overheard : Rules → Station → Frame → Station
+overheard R st f =
+    cond (eqb (f .version) 0x10 && eqb (f .command-version) 0x10)
+    (cond (eqb (f .command) 0x25)
+    (cond (went-well (replies.restart (f .payload))) (with-last (with-share st (R .restarted (st .share))) replies.ok) st)
+    (cond (eqb (f .command) 0x27) (set-time st (f .payload) .after) st))
+    st

@@ -6,4 +6,5 @@ mod settings;
 
 pub use record::Record;
 pub use record::StationLine;
+pub use responder::overhear;
 pub use responder::respond;

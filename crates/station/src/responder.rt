@@ -1,5 +1,6 @@
 // What a station answers to a telegram that is addressed to it.
 ghost use mathlib.Core.Bool.{cond};
+ghost use mathlib.Core.List.{List};
 ghost use mathlib.Core.Path.{_≡_};
 ghost use Prim.Native.Nat.{ℕ, _<_, _≤_};
 ghost use lib.ListN.{length};
@@ -9,6 +10,7 @@ ghost use Rattle.readings.specs.Bytes.{weighed, littleEndian};
 ghost use Rattle.station.specs.Model as model;
 ghost use Rattle.station.specs.Model.{Unchanged};
 ghost use Rattle.station.specs.Replies as replies;
+ghost use Rattle.station.specs.declared.record.StationLine.{StationLine as ALine};
 ghost use Rattle.std.specs.Options.{Cases as BySome, isSome};
 ghost use Rattle.telegram.specs.View.{frame};
 ghost use lib.Dec.{ltb};
@@ -174,4 +176,33 @@ pub fn respond<B: Board>(
     let reply = judge(line, state, window, board, slot, fields);
     state.last = reply.status();
     Some(reply)
+}
+
+// What a station does on a broadcast that reaches it. False, and nothing changes, where the board has no such slot.
+pub fn overhear<B: Board>(
+    state: &mut Record,
+    board: &mut B,
+    slot: usize,
+    fields: &Fields<'_>,
+) -> bool
+    ensures same { λ _. ⌜ count (now (board .exit)) ≡ count (now (board .entry)) ⌝ }
+    ensures heard { λ r. ⌜ r ≡ ltb slot (count (now (board .entry))) ⌝ }
+    ensures others { λ _. ⌜ SameBut slot (share (now (board .entry))) (share (now (board .exit))) ⌝ }
+    ensures after { λ r. ⌜ ((line : ALine) (settings : List ℕ) → model.station-of line (now (state .exit)) settings (share (now (board .exit)) slot) ≡ cond r (model.overheard (record { tells = tells; stored = stored; restarted = restarted }) (model.station-of line (now (state .entry)) settings (share (now (board .entry)) slot)) (frame (now (fields .entry)))) (model.station-of line (now (state .entry)) settings (share (now (board .entry)) slot))) ⌝ }
+{
+    if slot >= board.slots() {
+        return false;
+    }
+    if fields.version != 0x10 || fields.command_version != 0x10 {
+        return true;
+    }
+    let payload = fields.payload;
+    if fields.command == 0x25 && payload.len() == 1 && payload[0] == 0x10 {
+        board.restart(slot);
+        state.last = 0x00;
+    }
+    if fields.command == 0x27 {
+        let _ = set_time(&mut state.clock, payload);
+    }
+    true
 }

@@ -1,0 +1,5 @@
+// The head that answers for 1 to 32 stations.
+mod start;
+mod state;
+
+pub use state::Head;
