@@ -1,4 +1,5 @@
 // The head that answers for 1 to 32 stations.
+mod answer;
 mod calls;
 mod refusal;
 mod start;

@@ -1,11 +1,12 @@
 // Tables of lines made and asked.
 ghost use mathlib.Core.Path.{_≡_};
-ghost use Prim.Native.Nat.{ℕ, _<_, _≤_};
+ghost use Prim.Native.Nat.{ℕ, _+_, _<_, _≤_};
 ghost use lib.ListN.{length, take};
 ghost use mathlib.Core.Bool.{cond};
 ghost use lib.Dec.{ltb};
 ghost use Rattle.std.specs.Options.{Cases as BySome};
 ghost use Rattle.std.specs.Results.{Cases};
+ghost use Rattle.std.specs.Slices.{found};
 ghost use Rattle.std.specs.declared.option.Option.the-variants.{Some, None};
 ghost use Rattle.lines.specs.Making.{broken, lines-of, line-at};
 use crate::refusal::StartRefusal;
@@ -84,7 +85,8 @@ impl Lines {
 
     // The line of a slot.
     pub fn line(&self, slot: usize) -> Option<StationLine>
-        ensures { λ r. ⌜ r ≡ cond (ltb slot (now (self .entry) .count)) (Some (line-at (now (self .entry)) slot)) None ⌝ }
+        ensures value { λ r. ⌜ r ≡ cond (ltb slot (now (self .entry) .count)) (Some (line-at (now (self .entry)) slot)) None ⌝ }
+        ensures inside { λ r. ⌜ found r (λ l. l .first + l .size ≤ now (self .entry) .memory) ⌝ }
     {
         if slot < self.count {
             Some(self.lines[slot])

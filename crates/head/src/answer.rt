@@ -1,0 +1,39 @@
+// One station of the head answers, or all that a broadcast reaches act.
+ghost use mathlib.Core.Path.{_≡_};
+ghost use Prim.Native.Nat.{ℕ, _<_, _≤_};
+ghost use lib.ListN.{length};
+ghost use Rattle.lines.specs.Making.{line-at};
+ghost use Rattle.payload.specs.Spelled.{spelled};
+ghost use Rattle.station.specs.Model.{Became, answered};
+ghost use Rattle.telegram.specs.View.{frame};
+ghost use Rattle.head.specs.Bursts.{Only-window};
+ghost use Rattle.head.specs.State.{stations, record-at, station-at};
+use crate::state::Head;
+use board::Board;
+use payload::Payload;
+use station::respond;
+use telegram::Fields;
+
+impl Head {
+    // The station in this slot answers.
+    pub(crate) fn answer_at<B: Board>(&mut self, board: &mut B, memory: &mut [u8], slot: usize, fields: &Fields<'_>) -> Payload
+        requires { ⌜ slot < stations (now self) ⌝ ∗ ⌜ stations (now self) ≤ count (now board) ⌝ ∗ ⌜ length (now memory) ≡ now self .lines .memory ⌝ }
+        ensures same { λ _. ⌜ count (now (board .exit)) ≡ count (now (board .entry)) ⌝ }
+        ensures lines { λ _. ⌜ now (self .exit) .lines ≡ now (self .entry) .lines ⌝ }
+        ensures became { λ r. ⌜ Became (answered (record { tells = tells; stored = stored; restarted = restarted }) (station-at (now (self .entry)) (now (memory .entry)) (share (now (board .entry))) slot) (frame (now (fields .entry)))) (spelled r) (station-at (now (self .exit)) (now (memory .exit)) (share (now (board .exit))) slot) slot (share (now (board .entry))) (share (now (board .exit))) ⌝ }
+        ensures records { λ _. ⌜ ((k : ℕ) → (k ≡ slot → ⊥) → record-at (now (self .exit)) k ≡ record-at (now (self .entry)) k) ⌝ }
+        ensures window { λ _. ⌜ Only-window (line-at (now (self .entry) .lines) slot .first) (line-at (now (self .entry) .lines) slot .size) (now (memory .entry)) (now (memory .exit)) ⌝ }
+    {
+        let Some(line) = self.lines.line(slot) else {
+            return Payload::new();
+        };
+        let first = line.first as usize;
+        let end = first + line.size as usize;
+        let window = &mut memory[first..end];
+        let state = &mut self.records[slot];
+        match respond(line, state, window, board, slot, fields) {
+            Some(reply) => reply,
+            None => Payload::new(),
+        }
+    }
+}
