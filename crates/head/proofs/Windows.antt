@@ -56,10 +56,10 @@ seen-after t slot l records rec memory window s line short inside long =
 
 pub only-that : (l : StationLine) (memory window : List ℕ) → l .first + l .size ≤ length memory → length window ≡ l .size → Only-window (l .first) (l .size) memory (putMid (l .first) (l .first + l .size - l .first) memory window)
 only-that l memory window inside long =
-    record
-    { long = simp (length-append, length-take, length-drop) (omega arith)
-    ; below = take-putMid-below (l .first) (l .first + l .size - l .first) memory window (l .first) (omega arith) (omega arith)
-    ; above = drop-putMid (l .first) (l .first + l .size - l .first) memory window (l .first + l .size) (omega arith) (omega arith) (omega arith)
+    record {
+      long = simp (length-append, length-take, length-drop) (omega arith);
+      below = take-putMid-below (l .first) (l .first + l .size - l .first) memory window (l .first) (omega arith) (omega arith);
+      above = drop-putMid (l .first) (l .first + l .size - l .first) memory window (l .first + l .size) (omega arith) (omega arith) (omega arith);
     }
 
 pub only-its-own : (t : Lines) (slot : ℕ) (l : StationLine) (memory window : List ℕ) → l ≡ line-at t slot → l .first + l .size ≤ length memory → length window ≡ l .size

@@ -28,3 +28,7 @@ pub record Only-window (first size : ℕ) (before after : List ℕ) : Type 0 whe
   pub long : length after ≡ length before
   pub below : take first after ≡ take first before
   pub above : drop (first + size) after ≡ drop (first + size) before
+
+-- a station after a broadcast, whether it reaches it or not
+abbrev pub after-broadcast : Rules → Frame → Station → Station
+after-broadcast R f st = cond (reaches (f .receiver) (st .address)) (overheard R st f) st

@@ -24,7 +24,13 @@ fn is_listed(code: u8) -> bool
 
 impl Head {
     // Stores an outcome on a channel of the station in a slot.
-    pub fn put<B: Board>(&self, board: &mut B, slot: usize, channel: u16, outcome: Outcome) -> Result<(), PutFault>
+    pub fn put<B: Board>(
+        &self,
+        board: &mut B,
+        slot: usize,
+        channel: u16,
+        outcome: Outcome,
+    ) -> Result<(), PutFault>
         ensures same { λ _. ⌜ count (now (board .exit)) ≡ count (now (board .entry)) ⌝ }
         ensures put { λ r. ⌜ Putting stored (stations (now (self .entry))) (count (now (board .entry))) (share (now (board .entry))) (share (now (board .exit))) slot channel outcome r ⌝ }
     {

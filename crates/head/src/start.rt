@@ -23,7 +23,11 @@ const FRESH: Record = Record {
 
 impl Head {
     // A head for these lines, with a memory of so many bytes and a board.
-    pub fn start<B: Board>(lines: &[StationLine], memory: usize, board: &B) -> Result<Head, StartRefusal>
+    pub fn start<B: Board>(
+        lines: &[StationLine],
+        memory: usize,
+        board: &B,
+    ) -> Result<Head, StartRefusal>
         ensures { λ r. ⌜ Cases r (λ h. Started (now (lines .entry)) memory (count (now (board .entry))) h) (λ e. Not-started (now (lines .entry)) memory (count (now (board .entry))) e) ⌝ }
     {
         let table = match Lines::new(lines, memory) {

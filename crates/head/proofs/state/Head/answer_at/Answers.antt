@@ -24,15 +24,15 @@ returns-in-Some-respond g c =
     let before = seen-before (head .lines) slot l (getD (head .records) slot fresh) memory (g .B·Board .share (c .args .board .now) slot) line in
     let after = seen-after (head .lines) slot l (head .records) (c .respond .last .state) memory (c .respond .last .window) (g .B·Board .share (c .respond .last .board) slot) line (omega (arith, head .long, head .lines .few, c .pre .0)) inside long in
     let R : Rules = record { tells = g .B·Board .tells; stored = g .B·Board .stored; restarted = g .B·Board .restarted } in
-    record
-    { same = c .respond .ensures .same
-    ; lines = refl
-    ; became =
-        record
-        { replied = became .replied ∙ ap (λ (st : Station). answered R st (frame (c .args .fields .now)) .payload) before
-        ; turned = after ∙ became .turned ∙ ap (λ (st : Station). answered R st (frame (c .args .fields .now)) .after) before
-        ; others = became .others
-        }
-    ; records = λ k apart. getD-set-other (head .records) slot k _ _ apart
-    ; window = only-its-own (head .lines) slot l memory (c .respond .last .window) line inside long
+    record {
+      same = c .respond .ensures .same;
+      lines = refl;
+      became =
+          record {
+            replied = became .replied ∙ ap (λ (st : Station). answered R st (frame (c .args .fields .now)) .payload) before;
+            turned = after ∙ became .turned ∙ ap (λ (st : Station). answered R st (frame (c .args .fields .now)) .after) before;
+            others = became .others;
+          };
+      records = λ k apart. getD-set-other (head .records) slot k _ _ apart;
+      window = only-its-own (head .lines) slot l memory (c .respond .last .window) line inside long;
     }
