@@ -1,3 +1,4 @@
+pub mod Burst
 pub mod Bursts
 pub mod Calls
 pub mod Starting

@@ -1,10 +1,13 @@
 // The head that answers for 1 to 32 stations.
 mod answer;
+mod burst;
 mod calls;
 mod refusal;
 mod start;
 mod state;
 
+pub use burst::Answered;
+pub use refusal::BurstFault;
 pub use refusal::ConditionFault;
 pub use refusal::PutFault;
 pub use state::Head;

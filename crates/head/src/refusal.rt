@@ -1,5 +1,6 @@
 // Why a put or a condition is refused.
 ghost use mathlib.Core.Path.{_≡_};
+ghost use Rattle.head.specs.Burst.{number as burst-number};
 ghost use Rattle.head.specs.Calls.{put-number, condition-number};
 
 #[derive(Clone, Copy)]
@@ -42,6 +43,31 @@ impl ConditionFault {
         match self {
             ConditionFault::NoStation => 20,
             ConditionFault::NoSuchCode => 23,
+        }
+    }
+}
+
+#[derive(Clone, Copy)]
+pub enum BurstFault {
+    // The burst has more than 512 bytes.
+    TooLong,
+    // The reply buffer has fewer than 224 bytes.
+    ReplyTooShort,
+    // The memory that is brought has not as many bytes as that of the start.
+    OtherMemory,
+    // The board that is brought has fewer slots than the head has stations.
+    TooFewSlots,
+}
+
+impl BurstFault {
+    pub fn number(self) -> u8
+        ensures { λ r. ⌜ r ≡ burst-number self ⌝ }
+    {
+        match self {
+            BurstFault::TooLong => 10,
+            BurstFault::ReplyTooShort => 11,
+            BurstFault::OtherMemory => 12,
+            BurstFault::TooFewSlots => 12,
         }
     }
 }

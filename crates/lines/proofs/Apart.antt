@@ -9,6 +9,7 @@ use lib.Dec.{eqb, leb}
 use lib.ListN.{length, getD, take, length-take}
 use Rattle.std.proofs.shelf.Lists.{getD-take}
 use Rattle.std.proofs.shelf.Tests.{and-parts, leb-true, eqb-false, not-true, cases-order}
+use Rattle.address.specs.Addressing.{station}
 use Rattle.station.specs.declared.StationLine.{StationLine}
 use Rattle.lines.specs.declared.table.Lines.{Lines}
 use Rattle.lines.specs.Making.{line-at, no-line}
@@ -48,6 +49,16 @@ module _ (t : Lines) where
   distinct =
       and-parts (few ls && every is-station ls) (every-two differ ls)
       (and-parts (few ls && every is-station ls && every-two differ ls) (every (good-window (t .memory)) ls) first-four .0) .1
+
+  all-stations : every is-station ls ≡ true
+  all-stations =
+      and-parts (few ls) (every is-station ls)
+      (and-parts (few ls && every is-station ls) (every-two differ ls)
+      (and-parts (few ls && every is-station ls && every-two differ ls) (every (good-window (t .memory)) ls) first-four .0) .0) .1
+
+  -- the address of a slot is a station's
+  pub station-there : (k : ℕ) → k < t .count → station (line-at t k .address .0) ≡ true
+  station-there k h = ap is-station (sym (same-line k h)) ∙ every-at is-station ls k no-line all-stations (in-table k h)
 
   -- the window of a slot lies in the memory
   pub window-inside : (k : ℕ) → k < t .count → line-at t k .first + line-at t k .size ≤ t .memory
