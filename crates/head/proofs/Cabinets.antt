@@ -61,22 +61,22 @@ module _ (R : Rules) (f : Frame) (a b : Cabinet) (lines : b .head .lines ≡ a .
       let size : ℕ = line-at t slot .size in
       let at : ℕ → Station = λ k. station-at (a .head) (a .memory) (a .shares) k in
       let stays : (k : ℕ) → k < stations (a .head) → (k ≡ slot → ⊥) → station-at (b .head) (b .memory) (b .shares) k ≡ heard R (at k) f = λ k h apart.
-          let other : line-at t k .address .0 ≡ f .receiver → ⊥ = λ e. apart (addresses-differ t k slot h there (e ∙ sym named)) in
-          let unreached : reaches (f .receiver) (line-at t k .address .0) ≡ false =
-              ap (λ (n : ℕ). reaches n (line-at t k .address .0)) (sym named) ∙ station-no-broadcast (line-at t slot .address .0) (line-at t k .address .0) (station-there t slot there) in
-          same-there k (records k apart)
-          (part-kept (a .memory) (b .memory) first size window (line-at t k .first) (line-at t k .size) (windows-apart t slot k there h (λ e. apart (sym e)))) (others k apart)
-          ∙ sym (heard-not-named R (at k) f asked other ∙ cond-false (reaches (f .receiver) (line-at t k .address .0)) (overheard R (at k) f) (at k) unreached) in
-      record
-      { lines = lines
-      ; station = λ k h.
-          elim (cases-eq k slot)
-          [ inl here ↦ subst (λ (j : ℕ). station-at (b .head) (b .memory) (b .shares) j ≡ heard R (at j) f) (sym here) (turned ∙ sym (heard-named R (at slot) f asked named))
-          | inr apart ↦ stays k h apart
-          ]
-      ; long = window .long
-      ; bytes = λ i out. byte-kept (a .memory) (b .memory) first size window i (λ from below. out slot there (from, below))
-      ; shares = λ k past. others k (λ e. omega arith)
+      let other : line-at t k .address .0 ≡ f .receiver → ⊥ = λ e. apart (addresses-differ t k slot h there (e ∙ sym named)) in
+      let unreached : reaches (f .receiver) (line-at t k .address .0) ≡ false =
+      ap (λ (n : ℕ). reaches n (line-at t k .address .0)) (sym named) ∙ station-no-broadcast (line-at t slot .address .0) (line-at t k .address .0) (station-there t slot there) in
+      same-there k (records k apart)
+      (part-kept (a .memory) (b .memory) first size window (line-at t k .first) (line-at t k .size) (windows-apart t slot k there h (λ e. apart (sym e)))) (others k apart)
+      ∙ sym (heard-not-named R (at k) f asked other ∙ cond-false (reaches (f .receiver) (line-at t k .address .0)) (overheard R (at k) f) (at k) unreached) in
+      record {
+        lines = lines;
+        station = λ k h.
+            elim (cases-eq k slot) [
+              | inl here ↦ subst (λ (j : ℕ). station-at (b .head) (b .memory) (b .shares) j ≡ heard R (at j) f) (sym here) (turned ∙ sym (heard-named R (at slot) f asked named))
+              | inr apart ↦ stays k h apart
+            ];
+        long = window .long;
+        bytes = λ i out. byte-kept (a .memory) (b .memory) first size window i (λ from below. out slot there (from, below));
+        shares = λ k past. others k (λ e. omega arith);
       }
 
   -- a broadcast: the memory stays, and every station acts on it if it is reached
@@ -85,28 +85,28 @@ module _ (R : Rules) (f : Frame) (a b : Cabinet) (lines : b .head .lines ≡ a .
       → Moved R f a b
   moved-by-all asked unnamed memory turned =
       let at : ℕ → Station = λ k. station-at (a .head) (a .memory) (a .shares) k in
-      record
-      { lines = lines
-      ; station = λ k h.
-          ap (λ (t : Lines). station-of (line-at t k) (record-at (b .head) k) (part (b .memory) (line-at t k .first) (line-at t k .size)) (b .shares k)) lines
-          ∙ ap (λ (m : List ℕ). station-of (line-at (a .head .lines) k) (record-at (b .head) k) (settings-at (a .head) m k) (b .shares k)) memory
-          ∙ turned k (settings-at (a .head) (a .memory) k)
-          ∙ cond-true (ltb k (stations (a .head))) (after-broadcast R f (at k)) (at k) (lt-ltb k (stations (a .head)) h)
-          ∙ sym (heard-not-named R (at k) f asked (unnamed k h))
-      ; long = ap length memory
-      ; bytes = λ i out. ap (λ (m : List ℕ). getD m i 0) memory
-      ; shares = λ k past. ap (λ (st : Station). st .share) (turned k (settings-at (a .head) (a .memory) k) ∙ cond-false (ltb k (stations (a .head))) (after-broadcast R f (at k)) (at k) (le-ltb k (stations (a .head)) past))
+      record {
+        lines = lines;
+        station = λ k h.
+            ap (λ (t : Lines). station-of (line-at t k) (record-at (b .head) k) (part (b .memory) (line-at t k .first) (line-at t k .size)) (b .shares k)) lines
+            ∙ ap (λ (m : List ℕ). station-of (line-at (a .head .lines) k) (record-at (b .head) k) (settings-at (a .head) m k) (b .shares k)) memory
+            ∙ turned k (settings-at (a .head) (a .memory) k)
+            ∙ cond-true (ltb k (stations (a .head))) (after-broadcast R f (at k)) (at k) (lt-ltb k (stations (a .head)) h)
+            ∙ sym (heard-not-named R (at k) f asked (unnamed k h));
+        long = ap length memory;
+        bytes = λ i out. ap (λ (m : List ℕ). getD m i 0) memory;
+        shares = λ k past. ap (λ (st : Station). st .share) (turned k (settings-at (a .head) (a .memory) k) ∙ cond-false (ltb k (stations (a .head))) (after-broadcast R f (at k)) (at k) (le-ltb k (stations (a .head)) past));
       }
 
   -- a telegram of no controller: nothing moves
   pub moved-by-none : controller (f .sender) ≡ false → Stayed a b → Moved R f a b
   moved-by-none stranger stayed =
-      record
-      { lines = lines
-      ; station = λ k h.
-          same-there k (stayed .records k) (ap (λ (m : List ℕ). settings-at (a .head) m k) (stayed .memory)) (stayed .shares k)
-          ∙ sym (heard-stranger R (station-at (a .head) (a .memory) (a .shares) k) f stranger)
-      ; long = ap length (stayed .memory)
-      ; bytes = λ i out. ap (λ (m : List ℕ). getD m i 0) (stayed .memory)
-      ; shares = λ k past. stayed .shares k
+      record {
+        lines = lines;
+        station = λ k h.
+            same-there k (stayed .records k) (ap (λ (m : List ℕ). settings-at (a .head) m k) (stayed .memory)) (stayed .shares k)
+            ∙ sym (heard-stranger R (station-at (a .head) (a .memory) (a .shares) k) f stranger);
+        long = ap length (stayed .memory);
+        bytes = λ i out. ap (λ (m : List ℕ). getD m i 0) (stayed .memory);
+        shares = λ k past. stayed .shares k;
       }

@@ -40,29 +40,29 @@ module _ (m m′ : List ℕ) (first size : ℕ) (only : Only-window first size m
   -- the part of a window that shares no byte with it
   pub part-kept : (f n : ℕ) → min (first + size) (f + n) ≤ max first f → part m′ f n ≡ part m f n
   part-kept f n h =
-      elim (cases-lt first (f + n))
-      [ inr below ↦ part-below f n below
-      | inl over ↦
-          elim (cases-lt f (first + size))
-          [ inr above ↦ part-above f n above
-          | inl under ↦
-              elim (cases-eq n 0)
-              [ inl none ↦ rw none refl
-              | inr some ↦ ap (λ (l : List ℕ). part l f n) (all-kept (omega arith))
-              ]
-          ]
+      elim (cases-lt first (f + n)) [
+        | inr below ↦ part-below f n below
+        | inl over ↦
+            elim (cases-lt f (first + size)) [
+              | inr above ↦ part-above f n above
+              | inl under ↦
+                  elim (cases-eq n 0) [
+                    | inl none ↦ rw none refl
+                    | inr some ↦ ap (λ (l : List ℕ). part l f n) (all-kept (omega arith))
+                  ]
+            ]
       ]
 
   pub byte-kept : (i : ℕ) → (first ≤ i → i < first + size → ⊥) → getD m′ i 0 ≡ getD m i 0
   byte-kept i out =
-      elim (cases-lt i first)
-      [ inl below ↦ sym (getD-take first m′ i 0 below) ∙ ap (λ (l : List ℕ). getD l i 0) (only .below) ∙ getD-take first m i 0 below
-      | inr past ↦
-          elim (cases-lt i (first + size))
-          [ inl inside ↦ absurd (out past inside)
-          | inr above ↦
-              let index : first + size + (i - (first + size)) ≡ i = omega arith in
-              let cut : (xs : List ℕ) → getD xs i 0 ≡ getD (drop (first + size) xs) (i - (first + size)) 0 = λ xs. ap (λ (j : ℕ). getD xs j 0) (sym index) ∙ sym (getD-drop (first + size) xs (i - (first + size)) 0) in
-              cut m′ ∙ ap (λ (l : List ℕ). getD l (i - (first + size)) 0) (only .above) ∙ sym (cut m)
-          ]
+      elim (cases-lt i first) [
+        | inl below ↦ sym (getD-take first m′ i 0 below) ∙ ap (λ (l : List ℕ). getD l i 0) (only .below) ∙ getD-take first m i 0 below
+        | inr past ↦
+            elim (cases-lt i (first + size)) [
+              | inl inside ↦ absurd (out past inside)
+              | inr above ↦
+                  let index : first + size + (i - (first + size)) ≡ i = omega arith in
+                  let cut : (xs : List ℕ) → getD xs i 0 ≡ getD (drop (first + size) xs) (i - (first + size)) 0 = λ xs. ap (λ (j : ℕ). getD xs j 0) (sym index) ∙ sym (getD-drop (first + size) xs (i - (first + size)) 0) in
+                  cut m′ ∙ ap (λ (l : List ℕ). getD l (i - (first + size)) 0) (only .above) ∙ sym (cut m)
+            ]
       ]

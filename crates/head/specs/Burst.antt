@@ -1,5 +1,5 @@
 -- What the call `burst` does, for every input. Assumes nothing.
-use mathlib.Core.Bool.{true}
+use mathlib.Core.Bool.{Bool, true, false}
 use mathlib.Core.List.{List, _++_}
 use mathlib.Core.Path.{_≡_}
 use Prim.Native.Nat.{ℕ, _+_, _≤_, _<_}
@@ -67,19 +67,34 @@ Silent R a b None = Stayed a b
 Silent R a b (Some f) =
     Moved R f a b × (controller (f .sender) ≡ true → (k : ℕ) → k < stations (a .head) → line-at (a .head .lines) k .address .0 ≡ f .receiver → ⊥)
 
--- a reply of the station that is addressed, at the front of the buffer
-pub record Replied (R : Rules) (a b : Cabinet) (burst reply reply′ : List ℕ) (answer : Answered) : Type 0 where
+-- the reply of the station in a slot, at the front of the buffer
+pub record Answering (R : Rules) (f : Frame) (a : Cabinet) (reply reply′ : List ℕ) (answer : Answered) : Type 0 where
+  pub there : answer .slot < stations (a .head)
+  pub named : line-at (a .head .lines) (answer .slot) .address .0 ≡ f .receiver
+  pub count : answer .length ≡ length (frame-bytes (reply-to f (answered R (station-at (a .head) (a .memory) (a .shares) (answer .slot)) f .payload)))
+  pub bytes : reply′ ≡ frame-bytes (reply-to f (answered R (station-at (a .head) (a .memory) (a .shares) (answer .slot)) f .payload)) ++ drop (answer .length) reply
+
+-- what a controller's telegram does
+abbrev pub Served : Rules → Frame → Cabinet → Cabinet → List ℕ → List ℕ → Option Answered → Type 0
+Served R f a b reply reply′ None = Moved R f a b × ((k : ℕ) → k < stations (a .head) → line-at (a .head .lines) k .address .0 ≡ f .receiver → ⊥) × (reply′ ≡ reply)
+Served R f a b reply reply′ (Some answer) = Moved R f a b × Answering R f a reply reply′ answer
+
+-- a reply of the station that is addressed
+pub record Replied (R : Rules) (a b : Cabinet) (burst reply reply′ : List ℕ) (answered-by : Answered) : Type 0 where
   pub telegram : Frame
   pub stands : telegram-of burst ≡ Some telegram
   pub asked : controller (telegram .sender) ≡ true
-  pub there : answer .slot < stations (a .head)
-  pub named : line-at (a .head .lines) (answer .slot) .address .0 ≡ telegram .receiver
   pub moved : Moved R telegram a b
-  pub count : answer .length ≡ length (frame-bytes (reply-to telegram (answered R (station-at (a .head) (a .memory) (a .shares) (answer .slot)) telegram .payload)))
-  pub bytes : reply′ ≡ frame-bytes (reply-to telegram (answered R (station-at (a .head) (a .memory) (a .shares) (answer .slot)) telegram .payload)) ++ drop (answer .length) reply
+  pub answer : Answering R telegram a reply reply′ answered-by
 
 -- WHAT A BURST DOES
 abbrev pub Bursting : Rules → Cabinet → Cabinet → ℕ → List ℕ → List ℕ → List ℕ → Result (Option Answered) BurstFault → Type 0
 Bursting R a b slots burst reply reply′ (Err e) = Refused a slots burst reply e × Stayed a b × (reply′ ≡ reply)
 Bursting R a b slots burst reply reply′ (Ok None) = Silent R a b (telegram-of burst) × (reply′ ≡ reply)
 Bursting R a b slots burst reply reply′ (Ok (Some answer)) = Replied R a b burst reply reply′ answer
+
+-- whether a station replied
+abbrev pub has-replied : Result (Option Answered) BurstFault → Bool
+has-replied (Err e) = false
+has-replied (Ok None) = false
+has-replied (Ok (Some answer)) = true

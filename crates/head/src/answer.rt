@@ -59,8 +59,7 @@ impl Head {
             return;
         };
         if fields.receiver.reaches(line.address) {
-            let state = &mut self.records[slot];
-            let _ = overhear(state, board, slot, fields);
+            let _ = overhear(&mut self.records[slot], board, slot, fields);
         }
     }
 

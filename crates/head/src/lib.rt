@@ -2,11 +2,13 @@
 mod answer;
 mod burst;
 mod calls;
+mod line;
 mod refusal;
 mod start;
 mod state;
 
 pub use burst::Answered;
+pub use line::LineRecord;
 pub use refusal::BurstFault;
 pub use refusal::ConditionFault;
 pub use refusal::PutFault;
