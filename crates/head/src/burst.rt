@@ -72,7 +72,7 @@ fn talk(line: &mut LineRecord, fields: &Fields<'_>, payload: &Payload, reply: &m
     ensures count { λ r. ⌜ r ≡ length (frame-bytes (reply-to (frame (now (fields .entry))) (spelled (now (payload .entry))))) ⌝ }
     ensures bytes { λ r. ⌜ now (reply .exit) ≡ frame-bytes (reply-to (frame (now (fields .entry))) (spelled (now (payload .entry)))) ++ drop r (now (reply .entry)) ⌝ }
 {
-    line.talking = true;
+    line.begin();
     let _talk = Talk(line);
     reply_with(fields, payload, reply)
 }

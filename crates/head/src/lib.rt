@@ -9,6 +9,7 @@ mod state;
 
 pub use burst::Answered;
 pub use line::LineRecord;
+pub use line::Talk;
 pub use refusal::BurstFault;
 pub use refusal::ConditionFault;
 pub use refusal::PutFault;

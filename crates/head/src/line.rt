@@ -1,5 +1,5 @@
 // The line that bursts come over.
-ghost use mathlib.Core.Bool.{false};
+ghost use mathlib.Core.Bool.{true, false};
 ghost use mathlib.Core.Path.{_≡_};
 
 // Whether the head talks on the line or listens.
@@ -8,8 +8,24 @@ pub struct LineRecord {
     pub talking: bool,
 }
 
-// While this lasts the head talks; where it ends, in whatever way, the line listens again.
-pub(crate) struct Talk<'a>(pub(crate) &'a mut LineRecord);
+impl LineRecord {
+    // A line that listens.
+    pub fn new() -> LineRecord
+        ensures { λ r. ⌜ r .talking ≡ false ⌝ }
+    {
+        LineRecord { talking: false }
+    }
+
+    // The line talks from now on; whoever calls this holds a `Talk` over the line, which ends it.
+    pub fn begin(&mut self)
+        ensures { λ _. ⌜ now (self .exit) .talking ≡ true ⌝ }
+    {
+        self.talking = true;
+    }
+}
+
+// Held while a reply is written or a carrier test lasts. Where it ends, in whatever way, the line listens again.
+pub struct Talk<'a>(pub &'a mut LineRecord);
 
 impl Drop for Talk<'_> {
     fn drop(self)
