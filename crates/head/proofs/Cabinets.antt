@@ -1,22 +1,22 @@
 -- What a telegram made of every station. Assumes nothing.
-use mathlib.Core.Path.{_≡_, refl, sym, ap, _∙_, subst}
-use mathlib.Core.Bool.{Bool, true, false, cond}
+use mathlib.Core.Path.{_≡_, sym, ap, _∙_, subst}
+use mathlib.Core.Bool.{true, false, cond}
 use mathlib.Core.List.{List}
 use mathlib.Core.Logic.{inl, inr}
-use Prim.Native.Nat.{ℕ, _+_, _≤_, _<_}
+use Prim.Native.Nat.{ℕ, _<_}
 use native.Mathlib.Omega.{arith}
 use lib.Dec.{eqb, ltb}
 use lib.ListN.{length, getD}
 use Rattle.std.proofs.shelf.Tests.{cond-true, cond-false, lt-ltb, le-ltb, eq-eqb, ne-eqb, cases-eq}
 use Rattle.address.specs.Addressing.{controller, reaches}
-use Rattle.board.specs.Meaning.{Share, Same, SameBut}
+use Rattle.board.specs.Meaning.{Share, SameBut}
 use Rattle.lines.specs.Making.{line-at}
 use Rattle.lines.specs.declared.Lines.{Lines}
 use Rattle.lines.proofs.Apart.{addresses-differ, windows-apart, station-there}
 use Rattle.station.specs.Model.{Rules, Station, station-of, answered, overheard}
 use Rattle.station.specs.declared.Record.{Record}
 use Rattle.telegram.specs.Layout.{Frame, part}
-use Rattle.head.specs.Burst.{Cabinet, Moved, Stayed, In-window}
+use Rattle.head.specs.Burst.{Cabinet, Moved, Stayed}
 use Rattle.head.specs.Bursts.{heard, after-broadcast, Only-window}
 use Rattle.head.specs.State.{stations, record-at, settings-at, station-at}
 use Rattle.head.proofs.Moves.{station-no-broadcast, part-kept, byte-kept}

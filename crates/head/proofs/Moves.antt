@@ -1,16 +1,15 @@
 -- From what one station or a broadcast moved to what the whole cabinet became. Assumes nothing.
-use mathlib.Core.Path.{_≡_, refl, sym, ap, _∙_, subst}
-use mathlib.Core.Bool.{Bool, true, false, cond, _&&_, _||_}
-use mathlib.Core.List.{List, [], _∷_, _++_}
+use mathlib.Core.Path.{_≡_, refl, sym, ap, _∙_}
+use mathlib.Core.Bool.{true, false}
+use mathlib.Core.List.{List, [], _++_}
 use mathlib.Core.Logic.{inl, inr}
 use Prim.Native.Nat.{ℕ, _+_, _-_, _≤_, _<_, min, max}
 use native.Mathlib.Omega.{arith}
-use lib.Dec.{eqb, ltb, leb}
-use lib.ListN.{length, getD, take, drop}
+use lib.ListN.{getD, take, drop}
 use Rattle.std.proofs.shelf.Lists.{take-take, drop-drop, drop-take, take-append-drop, getD-take, getD-drop}
-use Rattle.std.proofs.shelf.Tests.{cond-true, cond-false, lt-ltb, eq-eqb, ne-eqb, cases-lt, cases-eq, cases-bool}
+use Rattle.std.proofs.shelf.Tests.{cases-lt, cases-eq}
 use Rattle.std.proofs.shelf.Ways.{tells}
-use Rattle.address.specs.Addressing.{station, controller, reaches}
+use Rattle.address.specs.Addressing.{station, reaches}
 use Rattle.head.specs.Bursts.{Only-window}
 use Rattle.telegram.specs.Layout.{part}
 

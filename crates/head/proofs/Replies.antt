@@ -1,13 +1,13 @@
 -- Telegrams asked and written. Assumes nothing.
-use mathlib.Core.Path.{_≡_, refl, sym, ap, _∙_, subst}
-use mathlib.Core.List.{List, [], _∷_, _++_}
-use Prim.Native.Nat.{ℕ, _+_, _≤_}
+use mathlib.Core.Path.{_≡_, sym, ap, _∙_}
+use mathlib.Core.List.{List, [], _++_}
+use Prim.Native.Nat.{ℕ, _+_}
 use native.Mathlib.Omega.{arith}
 use lib.ListN.{length, drop, length-append}
-use Rattle.std.specs.declared.option.Option.the-variants.{Some, None}
+use Rattle.std.specs.declared.option.Option.the-variants.{Some}
 use Rattle.burst.specs.Telegram.{telegram-of}
 use Rattle.burst.proofs.Lowest.{first-is}
-use Rattle.telegram.specs.Layout.{First, Frame, frame-of, frame-at, frame-bytes, covered, low-first}
+use Rattle.telegram.specs.Layout.{First, Frame, frame-of, frame-at, frame-bytes}
 use Rattle.telegram.specs.View.{Views, burst-of}
 use Rattle.telegram.specs.Writing.{Written}
 use Rattle.telegram.specs.declared.Telegram.{Telegram}

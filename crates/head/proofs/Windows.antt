@@ -1,22 +1,20 @@
 -- One window of the memory written, and what stays. Assumes nothing.
-use mathlib.Core.Path.{_≡_, refl, sym, ap, _∙_, subst}
-use mathlib.Core.Bool.{Bool, true, false, cond}
-use mathlib.Core.List.{List, [], _∷_, _++_}
-use mathlib.Core.Logic.{inl, inr}
-use Prim.Native.Nat.{ℕ, zero, suc, _+_, _-_, _≤_, _<_, min, max}
+use mathlib.Core.Path.{_≡_, sym, ap, _∙_, subst}
+use mathlib.Core.Bool.{cond}
+use mathlib.Core.List.{List, []}
+use Prim.Native.Nat.{ℕ, _+_, _-_, _≤_, _<_}
 use native.Mathlib.Omega.{arith}
 use borrow.Rule.Slice.PartMut.{putMid}
 use lib.Dec.{ltb}
 use lib.ListN.{length, getD, take, drop, set, length-append, length-take, length-drop}
-use Rattle.std.proofs.shelf.Lists.{take-take, drop-drop, drop-take, take-all, getD-set-same, getD-set-other}
+use Rattle.std.proofs.shelf.Lists.{getD-set-same}
 use Rattle.std.proofs.shelf.Parts.{take-putMid-below, drop-putMid, between-putMid}
-use Rattle.std.proofs.shelf.Tests.{lt-ltb, cond-true, cases-lt}
-use Rattle.std.specs.declared.option.Option.{Option}
+use Rattle.std.proofs.shelf.Tests.{lt-ltb, cond-true}
 use Rattle.std.specs.declared.option.Option.the-variants.{Some, None}
 use Rattle.board.specs.Meaning.{Share}
 use Rattle.lines.specs.Making.{line-at}
 use Rattle.lines.specs.declared.Lines.{Lines}
-use Rattle.station.specs.Model.{Station, station-of}
+use Rattle.station.specs.Model.{station-of}
 use Rattle.station.specs.declared.Record.{Record}
 use Rattle.station.specs.declared.StationLine.{StationLine}
 use Rattle.telegram.specs.Layout.{part}

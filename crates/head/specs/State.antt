@@ -1,8 +1,7 @@
 -- The stations of a head. Assumes nothing.
 use mathlib.Core.List.{List}
-use mathlib.Core.Path.{_≡_}
-use Prim.Native.Nat.{ℕ, _+_, _<_, _≤_}
-use lib.ListN.{length, getD, take, drop}
+use Prim.Native.Nat.{ℕ}
+use lib.ListN.{getD}
 use Rattle.board.specs.Meaning.{Share}
 use Rattle.lines.specs.Making.{line-at}
 use Rattle.station.specs.Model.{Station, station-of}

@@ -1,7 +1,7 @@
 // The calls besides a burst: put, condition and tick.
 ghost use mathlib.Core.Bool.{cond, _&&_};
 ghost use mathlib.Core.Path.{_≡_};
-ghost use Prim.Native.Nat.{ℕ, _<_, _≤_};
+ghost use Prim.Native.Nat.{ℕ, _<_};
 ghost use lib.Dec.{eqb, ltb};
 ghost use Rattle.std.specs.Results.{isOk};
 ghost use Rattle.head.specs.Calls.{Putting, listed, conditioned, with-code, ticked};

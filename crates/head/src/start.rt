@@ -1,12 +1,7 @@
 // The start of a head.
-ghost use mathlib.Core.Path.{_≡_};
-ghost use Prim.Native.Nat.{ℕ, _<_, _≤_};
-ghost use lib.ListN.{length};
-ghost use Rattle.lines.specs.Making.{broken, lines-of};
+ghost use Prim.Native.Nat.{_<_};
 ghost use Rattle.lines.specs.declared.StartRefusal.the-variants.{FewSlots};
 ghost use Rattle.std.specs.Results.{Cases};
-ghost use Rattle.std.specs.declared.option.Option.the-variants.{Some, None};
-ghost use Rattle.head.specs.State.{fresh, record-at};
 ghost use Rattle.head.specs.Starting.{Started, Not-started};
 use crate::state::Head;
 use board::Board;

@@ -1,11 +1,11 @@
 -- What the rules of a sound table say of two slots. Assumes nothing.
-use mathlib.Core.Path.{_≡_, refl, sym, ap, _∙_, subst}
-use mathlib.Core.Bool.{Bool, true, false, _&&_, not}
+use mathlib.Core.Path.{_≡_, sym, ap, _∙_}
+use mathlib.Core.Bool.{Bool, true, _&&_}
 use mathlib.Core.List.{List, [], _∷_}
 use mathlib.Core.Logic.{inl, inr}
 use Prim.Native.Nat.{ℕ, zero, suc, _+_, _≤_, _<_, min, max}
 use native.Mathlib.Omega.{arith}
-use lib.Dec.{eqb, leb}
+use lib.Dec.{leb}
 use lib.ListN.{length, getD, take, length-take}
 use Rattle.std.proofs.shelf.Lists.{getD-take}
 use Rattle.std.proofs.shelf.Tests.{and-parts, leb-true, eqb-false, not-true, cases-order}
@@ -13,7 +13,7 @@ use Rattle.address.specs.Addressing.{station}
 use Rattle.station.specs.declared.StationLine.{StationLine}
 use Rattle.lines.specs.declared.table.Lines.{Lines}
 use Rattle.lines.specs.Making.{line-at, no-line}
-use Rattle.lines.specs.Rules.{sound, few, every, every-two, is-station, differ, good-window, apart}
+use Rattle.lines.specs.Rules.{few, every, every-two, is-station, differ, good-window, apart}
 
 every-at : (t : StationLine → Bool) (xs : List StationLine) (k : ℕ) (d : StationLine) → every t xs ≡ true → k < length xs → t (getD xs k d) ≡ true
 every-at t [] k d h less = absurd (omega arith)

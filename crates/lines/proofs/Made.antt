@@ -1,12 +1,12 @@
 -- A table that is made of lines which break no rule. Assumes nothing.
-use mathlib.Core.Path.{_≡_, refl, sym, ap, _∙_}
-use mathlib.Core.Bool.{Bool, true, cond, _&&_}
+use mathlib.Core.Path.{_≡_, refl}
+use mathlib.Core.Bool.{true}
 use mathlib.Core.List.{List, _++_}
 use Prim.Native.Nat.{ℕ, _≤_}
 use lib.Dec.{leb}
 use lib.ListN.{length, take}
 use Rattle.std.proofs.shelf.Lists.{take-at}
-use Rattle.std.proofs.shelf.Tests.{and-from, le-leb, cond-true}
+use Rattle.std.proofs.shelf.Tests.{and-from, le-leb}
 use Rattle.std.specs.declared.option.Option.the-variants.{None}
 use Rattle.station.specs.declared.StationLine.{StationLine}
 use Rattle.lines.specs.Making.{broken}

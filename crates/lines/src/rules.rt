@@ -1,7 +1,7 @@
 // The rules of a list of station lines.
 ghost use mathlib.Core.Bool.{Bool};
 ghost use mathlib.Core.Path.{_≡_};
-ghost use Prim.Native.Nat.{ℕ, _+_, _≤_};
+ghost use Prim.Native.Nat.{_+_};
 ghost use Rattle.lines.specs.Rules as rules;
 ghost use Rattle.station.specs.declared.StationLine.{StationLine};
 use station::StationLine as Line;

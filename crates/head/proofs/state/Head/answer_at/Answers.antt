@@ -1,10 +1,9 @@
-use mathlib.Core.Path.{_≡_, refl, sym, ap, _∙_, subst}
+use mathlib.Core.Path.{_≡_, refl, ap, _∙_}
 use mathlib.Core.List.{List}
-use Prim.Native.Nat.{ℕ, _+_, _-_, _≤_, _<_}
+use Prim.Native.Nat.{ℕ, _+_, _-_, _≤_}
 use native.Mathlib.Omega.{arith}
-use lib.ListN.{length, take, drop, getD, length-take, length-drop}
+use lib.ListN.{length, getD, length-take, length-drop}
 use Rattle.std.proofs.shelf.Lists.{getD-set-other}
-use Rattle.lines.specs.Making.{line-at}
 use Rattle.station.specs.Model.{Rules, Station, answered}
 use Rattle.telegram.specs.View.{frame}
 use Rattle.head.specs.State.{fresh}

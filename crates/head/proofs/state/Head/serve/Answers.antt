@@ -1,8 +1,7 @@
-use mathlib.Core.Path.{_≡_, refl, sym, ap, _∙_, subst}
+use mathlib.Core.Path.{refl, ap, _∙_}
 use mathlib.Core.List.{List, _++_}
 use Prim.Native.Nat.{ℕ}
 use lib.ListN.{length, drop}
-use Rattle.payload.specs.Spelled.{spelled}
 use Rattle.station.specs.Model.{Rules}
 use Rattle.telegram.specs.Layout.{Frame, frame-bytes}
 use Rattle.telegram.specs.View.{frame}
