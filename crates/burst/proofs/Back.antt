@@ -2,12 +2,11 @@
 use mathlib.Core.Path.{_≡_, refl, sym, ap, _∙_}
 use mathlib.Core.List.{List, [], _∷_, _++_}
 use Prim.Native.Nat.{ℕ, zero, suc, _+_, _-_, _*_, _/_, _%_, _≤_, _<_}
-use native.Mathlib.Nat.{add-zero, add-suc}
-use native.Mathlib.Numerals.{add-one}
+use native.Mathlib.Nat.{add-zero}
 use native.Mathlib.Omega.{arith}
 use lib.Seq.{take-add}
-use lib.ListN.{length, take, drop, length-take, length-drop, length-append}
-use Rattle.std.proofs.shelf.Lists.{append-assoc, drop-drop, drop-more, length-take-le}
+use lib.ListN.{length, take, drop, length-drop}
+use Rattle.std.proofs.shelf.Lists.{drop-drop, drop-more, length-take-le}
 use Rattle.std.proofs.shelf.Bits.{div-mul-add, mod-mul-add}
 use Rattle.checksum.specs.Crc.{crc}
 use Rattle.telegram.proofs.Frames.{head}

@@ -1,17 +1,15 @@
 -- The telegram of a burst as a function is the one that the relation names. Assumes nothing.
-use mathlib.Core.Path.{_≡_, refl, sym, ap, _∙_}
-use mathlib.Core.Bool.{Bool, true, false, cond, _&&_}
+use mathlib.Core.Path.{_≡_, refl, ap, _∙_}
+use mathlib.Core.Bool.{true}
 use mathlib.Core.List.{List}
 use mathlib.Core.Logic.{inl, inr}
 use Prim.Native.Nat.{ℕ, zero, suc, _+_, _≤_, _<_}
 use native.Mathlib.Omega.{arith}
-use lib.Dec.{eqb, leb}
 use lib.ListN.{length}
-use Rattle.std.proofs.shelf.Tests.{and-from, and-parts, eq-eqb, le-leb, eqb-true, leb-true, cases-bool, both-ways, cond-true, cond-false, cases-lt}
+use Rattle.std.proofs.shelf.Tests.{and-from, and-parts, eq-eqb, le-leb, eqb-true, leb-true, cases-bool, cond-true, cond-false, cases-lt}
 use Rattle.std.specs.Options.{mapped}
-use Rattle.std.specs.declared.option.Option.{Option}
 use Rattle.std.specs.declared.option.Option.the-variants.{Some, None}
-use Rattle.telegram.specs.Layout.{at, word, part, len, Stands, First, None-stands, frame-at}
+use Rattle.telegram.specs.Layout.{Stands, First, None-stands, frame-at}
 use Rattle.burst.specs.Telegram.{fits, lowest, telegram-of}
 use Rattle.burst.proofs.Tests.{soh-inside}
 

@@ -8,14 +8,13 @@ use lib.ListN.{length}
 use Rattle.checksum.specs.Crc.{crc}
 use Rattle.std.specs.declared.option.Option.{Option}
 use Rattle.std.specs.declared.option.Option.the-variants.{Some, None}
-use Rattle.burst.specs.declared.fault.Layer.{Layer}
 use Rattle.burst.specs.declared.fault.Layer.the-variants.{Line}
 use Rattle.burst.specs.declared.fault.Place.{Place}
 use Rattle.burst.specs.declared.fault.LineFault.{LineFault}
 use Rattle.burst.specs.declared.fault.LineFault.the-variants.{NoSoh, EndsBeforeLen, LenOutOfRange, EndsTooEarly, WrongStx, WrongEtx, WrongEot, WrongChecksum}
 use Rattle.burst.specs.declared.fault.ReadFault.{ReadFault}
 use Rattle.burst.specs.declared.fault.ReadFault.the-variants.{TooLong, AtLine}
-use Rattle.telegram.specs.Layout.{at, word, part, len, First, None-stands}
+use Rattle.telegram.specs.Layout.{at, word, part, len, None-stands}
 
 -- What a fault tells: its number and, where it is a fault of a layer, which layer and the position in the burst.
 pub record Told : Type 0 where

@@ -6,7 +6,7 @@ use lib.ListN.{length, drop}
 use Rattle.burst.specs.declared.repeater.RelayFault.{RelayFault}
 use Rattle.burst.specs.declared.repeater.RelayFault.the-variants.{Unread as NotRead, Unwritten}
 use Rattle.telegram.specs.declared.WriteRefusal.the-variants.{BufferTooShort}
-use Rattle.telegram.specs.Layout.{part, len, First, None-stands}
+use Rattle.telegram.specs.Layout.{part, len, First}
 use Rattle.burst.specs.Reading.{Unread}
 
 -- The bytes of the burst's telegram, just as they lie there, at the front of the buffer.

@@ -12,7 +12,7 @@ use mir.Val.{Fits}
 use borrow.Author.Tests.{eq-eqb, eqb-true}
 use Rattle.std.specs.Options.{okOr}
 use Rattle.std.specs.declared.option.Option.{Option}
-use Rattle.std.specs.declared.option.Option.the-variants.{Some, None}
+use Rattle.std.specs.declared.option.Option.the-variants.{Some}
 use Rattle.std.specs.declared.result.Result.the-variants.{Ok, Err}
 use Rattle.readings.specs.declared.kind.Kind.{Kind}
 use Rattle.readings.specs.declared.kind.Kind.the-variants as K

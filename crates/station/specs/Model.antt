@@ -1,8 +1,8 @@
 -- THE MODEL STATION: what one station answers, and what becomes of it, from its own state and the board's rules alone.
 -- Neither the slot's number nor the place of its window in the memory occurs here. Assumes nothing.
-use mathlib.Core.Bool.{Bool, true, false, cond, not, _||_, _&&_}
+use mathlib.Core.Bool.{Bool, cond, _||_, _&&_}
 use mathlib.Core.List.{List, [], _∷_}
-use Prim.Native.Nat.{ℕ, _+_, _-_, _^_, min}
+use Prim.Native.Nat.{ℕ, _-_}
 use lib.Dec.{eqb}
 use lib.ListN.{drop}
 use mathlib.Core.Path.{_≡_}

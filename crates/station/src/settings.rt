@@ -1,7 +1,7 @@
 // The station's window of the settings memory: commands 21h and 22h.
 ghost use mathlib.Core.Bool.{cond};
 ghost use mathlib.Core.Path.{_≡_};
-ghost use Prim.Native.Nat.{ℕ, _+_, _≤_, _<_};
+ghost use Prim.Native.Nat.{_+_, _<_};
 ghost use lib.ListN.{length, drop};
 ghost use Rattle.payload.specs.Spelled.{spelled};
 ghost use Rattle.station.specs.Model.{went-well};

@@ -1,7 +1,7 @@
 -- A view over a burst, and what its parts are. Assumes nothing.
 use mathlib.Core.Path.{_≡_}
 use mathlib.Core.List.{List}
-use Prim.Native.Nat.{ℕ, _+_}
+use Prim.Native.Nat.{ℕ}
 use denote.Ref.{now}
 use Rattle.telegram.specs.declared.view.Part.{Part}
 use Rattle.telegram.specs.declared.view.Telegram.{Telegram}

@@ -1,6 +1,6 @@
 // A telegram where it lies in its burst.
 ghost use mathlib.Core.Path.{_≡_};
-ghost use Prim.Native.Nat.{ℕ, _+_, _-_, _<_, _^_};
+ghost use Prim.Native.Nat.{_+_, _-_, _<_, _^_};
 ghost use Rattle.telegram.specs.Layout.{at, word, frame-of};
 ghost use Rattle.telegram.specs.View.{Is-part, burst-of, frame};
 use address::Address;

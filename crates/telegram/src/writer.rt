@@ -1,7 +1,7 @@
 // Telegrams written into a buffer.
 ghost use mathlib.Core.Path.{_≡_};
 ghost use mathlib.Core.List.{_++_};
-ghost use Prim.Native.Nat.{ℕ, _+_, _≤_};
+ghost use Prim.Native.Nat.{_+_, _≤_};
 ghost use lib.ListN.{length, drop};
 ghost use Rattle.std.specs.Results.{Cases};
 ghost use Rattle.telegram.specs.Layout.{covered};

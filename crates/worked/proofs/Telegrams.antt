@@ -1,18 +1,17 @@
 -- The worked cases on telegrams. Where none stands, one test is computed at every position.
 -- Assumes nothing.
-use mathlib.Core.Path.{_≡_, refl, sym, ap, _∙_}
-use mathlib.Core.Bool.{Bool, true, false, _&&_, not}
+use mathlib.Core.Path.{_≡_, refl}
+use mathlib.Core.Bool.{Bool, true, _&&_, not}
 use mathlib.Core.List.{List, [], _∷_}
 use mathlib.Core.Logic.{inl, inr}
 use Prim.Native.Nat.{ℕ, zero, suc, _+_, _≤_, _<_}
-use native.Mathlib.Numerals.{add-one}
 use native.Mathlib.Omega.{arith}
 use lib.Dec.{eqb, leb, lit≤}
 use lib.ListN.{length}
 use Rattle.std.proofs.shelf.Lists.{getD-past}
 use Rattle.std.proofs.shelf.Tests.{cases-lt, and-parts, and-from, eq-eqb, le-leb, both-ways, not-true}
 use Rattle.checksum.specs.Crc.{crc, updated, bits-in, bit-in, shifted}
-use Rattle.telegram.specs.Layout.{at, word, part, len, Stands, First, None-stands}
+use Rattle.telegram.specs.Layout.{at, word, part, len, Stands, None-stands}
 use Rattle.worked.specs.Cases as spec
 
 -- a test that every telegram passes

@@ -1,4 +1,3 @@
-use Prim.Native.Nat.{ℕ, _<_}
 use Rattle.telegram.specs.Layout.{None-between}
 use Rattle.burst.proofs.search.search_from.Given as given
 

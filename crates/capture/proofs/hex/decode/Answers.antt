@@ -1,5 +1,5 @@
 use mathlib.Core.Path.{_≡_, refl, sym, ap, _∙_, subst}
-use mathlib.Core.List.{List, [], _∷_, _++_}
+use mathlib.Core.List.{List, [], _∷_}
 use Prim.Native.Nat.{ℕ, _+_, _*_, _<_}
 use native.Mathlib.Omega.{arith}
 use lib.ListN.{length, getD}
@@ -8,8 +8,7 @@ use Rattle.std.specs.declared.result.Result.the-variants.{Err}
 use Rattle.capture.specs.declared.hex.HexFault.the-variants.{HalfByte}
 use Rattle.std.specs.Of.Vec.{vec-items}
 use Rattle.std.specs.declared.option.Option.{Option}
-use Rattle.std.specs.declared.option.Option.the-variants.{Some, None}
-use Rattle.capture.proofs.Decoding.{Left, Small, digit-small, waits, joins, skips, ends, half-blank, half-comment, wrong, all, all-but-half}
+use Rattle.capture.proofs.Decoding.{Left, digit-small, waits, joins, skips, ends, half-blank, half-comment, wrong, all, all-but-half}
 use Rattle.capture.proofs.hex.decode.Needs as need
 use Rattle.capture.proofs.hex.decode.Needs.{in-Digit·in-None, in-Digit·in-Some·in-Continue-push, in-Blank·else-is-some}
 

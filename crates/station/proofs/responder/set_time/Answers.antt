@@ -1,4 +1,4 @@
-use mathlib.Core.Path.{_≡_, _∙_}
+use mathlib.Core.Path.{_∙_}
 use borrow.Author.Needs.{needs}
 use Rattle.payload.specs.Spelled.{spelled}
 use Rattle.readings.specs.Bytes.{weighed}

@@ -1,11 +1,10 @@
-use mathlib.Core.Path.{_≡_, ap, _∙_}
+use mathlib.Core.Path.{ap, _∙_}
 use mathlib.Core.List.{List, _++_}
 use Prim.Native.Nat.{_+_, _-_}
 use native.Mathlib.Omega.{arith}
 use lib.ListN.{length, take, length-take, length-drop, length-append}
-use borrow.Rule.Slice.PartMut.{putMid}
 use borrow.Author.Needs.{needs}
-use Rattle.std.proofs.shelf.Parts.{take-putMid, overwrites}
+use Rattle.std.proofs.shelf.Parts.{take-putMid}
 use Rattle.payload.proofs.bytes.Payload.append.Needs as need
 
 pub ghost-self : need.ghost-self

@@ -1,5 +1,4 @@
-use mathlib.Core.Path.{_≡_, _∙_}
-use Rattle.readings.specs.Codes.{sizeOf}
+use mathlib.Core.Path.{_∙_}
 use Rattle.readings.proofs.Wire.{read-back}
 use Rattle.readings.proofs.reading.Reading.read.Needs as need
 
