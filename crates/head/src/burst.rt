@@ -45,9 +45,9 @@ fn asked<'a>(burst: &'a [u8]) -> Option<Fields<'a>>
     }
 }
 
-// Writes the reply of the station that was asked, and tells its length.
-fn reply_with(fields: &Fields<'_>, payload: &Payload, reply: &mut [u8]) -> usize
-    requires { ⌜ 224 ≤ length (now reply) ⌝ }
+// Writes the reply of the station that was asked, and tells its length. No byte is written but on a line that talks.
+fn reply_with(line: &LineRecord, fields: &Fields<'_>, payload: &Payload, reply: &mut [u8]) -> usize
+    requires { ⌜ 224 ≤ length (now reply) ⌝ ∗ ⌜ now line .talking ≡ true ⌝ }
     ensures count { λ r. ⌜ r ≡ length (frame-bytes (reply-to (frame (now (fields .entry))) (spelled (now (payload .entry))))) ⌝ }
     ensures bytes { λ r. ⌜ now (reply .exit) ≡ frame-bytes (reply-to (frame (now (fields .entry))) (spelled (now (payload .entry)))) ++ drop r (now (reply .entry)) ⌝ }
 {
@@ -73,8 +73,8 @@ fn talk(line: &mut LineRecord, fields: &Fields<'_>, payload: &Payload, reply: &m
     ensures bytes { λ r. ⌜ now (reply .exit) ≡ frame-bytes (reply-to (frame (now (fields .entry))) (spelled (now (payload .entry)))) ++ drop r (now (reply .entry)) ⌝ }
 {
     line.begin();
-    let _talk = Talk(line);
-    reply_with(fields, payload, reply)
+    let talk = Talk(line);
+    reply_with(&*talk.0, fields, payload, reply)
 }
 
 impl Head {
