@@ -1,4 +1,6 @@
 // Addresses on the Universal Measurement Bus. Each rule stands once, as a definition and as a function.
+#![tactic(auto)]
+
 ghost use Rattle.std.specs.Prelude.{◌≡◌};
 ghost use Rattle.address.specs.Addressing.{class, reserve, id, of_station_class, station, controller, broadcast_to_all, broadcast_to_class, reaches, HasRole};
 

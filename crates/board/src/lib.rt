@@ -1,4 +1,6 @@
 // The interface between the head and the boards of readings.
+#![tactic(auto)]
+
 pub mod interface;
 pub mod refusal;
 

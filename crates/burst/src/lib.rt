@@ -1,4 +1,6 @@
 // What arrives between two silences: which telegram stands in it, or what is wrong with it.
+#![tactic(auto)]
+
 mod fault;
 mod repeater;
 mod search;

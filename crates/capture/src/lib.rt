@@ -1,4 +1,6 @@
 // Captures of the bus: what a line spells, and how often what was seen.
+#![tactic(auto)]
+
 mod hex;
 mod tally;
 

@@ -1,4 +1,6 @@
 // The checksum of a telegram, a byte at a time.
+#![tactic(auto)]
+
 ghost use Rattle.std.specs.Prelude.{◌≡◌};
 ghost use Rattle.checksum.specs.Crc.{updated, crc};
 

@@ -1,4 +1,6 @@
 // The head that answers for 1 to 32 stations.
+#![tactic(auto)]
+
 mod answer;
 mod burst;
 mod calls;

@@ -1,5 +1,7 @@
 // A head run on the manual's poll, on broadcasts, and at its refusals.
 
+#![tactic(auto)]
+
 #[cfg(test)]
 mod tests {
     use address::Address;

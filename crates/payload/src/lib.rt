@@ -1,4 +1,6 @@
 // The payload of a telegram while it is put together.
+#![tactic(auto)]
+
 ghost use Rattle.std.specs.Prelude.{◌≡◌, ◌+◌, ◌≤◌, [], length, slice_index};
 ghost use Rattle.payload.specs.Spelled.{spelled, Appended};
 

@@ -1,5 +1,7 @@
 // What a cabinet measures: an outcome is a value of one of eight types, or a fault.
 // The specs give every type and fault its code, a value its bytes, and an outcome its whole numbers.
+#![tactic(auto)]
+
 pub mod fault;
 pub mod float32;
 pub mod float64;

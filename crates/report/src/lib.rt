@@ -1,4 +1,6 @@
 // What stands in a capture, in words.
+#![tactic(auto)]
+
 mod report;
 mod words;
 

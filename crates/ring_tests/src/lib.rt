@@ -1,5 +1,7 @@
 //! The ring at signed samples and at release words.
 
+#![tactic(auto)]
+
 #[cfg(test)]
 mod tests {
     use ring::{Marks, Ring, RingRefusal};

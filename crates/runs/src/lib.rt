@@ -1,4 +1,6 @@
 // Lists of calls run on one head, and what they draw.
+#![tactic(auto)]
+
 mod call;
 mod runner;
 

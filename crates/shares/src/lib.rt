@@ -1,4 +1,6 @@
 // What a board holds of a slot, as whole numbers that can be shown.
+#![tactic(auto)]
+
 ghost use Rattle.std.specs.Prelude.{◌≡◌, ◌<◌, [], ◌∷◌, ◌++◌, pos, IfOk, OnOk};
 ghost use Rattle.readings.specs.Codes.{kind_code};
 ghost use Rattle.readings.specs.Outcomes.{number_of};

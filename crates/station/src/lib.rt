@@ -1,4 +1,6 @@
 // What a station answers.
+#![tactic(auto)]
+
 mod online;
 mod record;
 mod responder;

@@ -1,5 +1,7 @@
 // The table board on examples.
 
+#![tactic(auto)]
+
 #[cfg(test)]
 mod tests {
     use board::{Board, PutRefusal};

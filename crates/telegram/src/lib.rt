@@ -1,4 +1,6 @@
 // Telegrams of the Universal Measurement Bus: read where they lie in a burst, and written.
+#![tactic(auto)]
+
 mod view;
 mod writer;
 

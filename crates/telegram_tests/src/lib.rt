@@ -1,5 +1,7 @@
 // The published vectors and the edges of telegrams.
 
+#![tactic(auto)]
+
 #[cfg(test)]
 mod tests {
     use address::Address;

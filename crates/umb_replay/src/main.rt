@@ -1,4 +1,6 @@
 // Sets up a cabinet from a script, makes the calls of the script and tells what came of each.
+#![tactic(auto)]
+
 mod meaning;
 mod parse;
 mod refusals;

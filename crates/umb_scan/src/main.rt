@@ -1,4 +1,6 @@
 // Reads a capture of the bus and tells what stands in each burst.
+#![tactic(auto)]
+
 use anyhow::anyhow;
 use burst::read;
 use capture::{HexFault, Seen, Tally, decode, sort_of};

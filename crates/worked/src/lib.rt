@@ -1,4 +1,6 @@
 // The worked cases, shown of the definitions that the contracts cite, in one combined result.
+#![tactic(auto)]
+
 ghost use Rattle.std.specs.Prelude.{◌≡◌};
 ghost use Rattle.worked.specs.Cases.{Worked, cases};
 
