@@ -12,6 +12,7 @@ mod values;
 mod words;
 mod wrong;
 
+use anyhow::anyhow;
 use script::{Script, read};
 use std::env;
 use std::fs::File;
@@ -20,10 +21,7 @@ use std::io::BufReader;
 fn script_in(rt: &HostRuntime, path: &str) -> anyhow::Result<Script> {
     match File::open(rt, path) {
         Ok(file) => read(rt.alloc(), BufReader::new(rt.alloc(), file)?),
-        Err(cause) => {
-            let message = format!(in rt.alloc(); "cannot read {path}: {cause}")?;
-            Err(message.into())
-        }
+        Err(cause) => Err(anyhow!("cannot read {path}: {cause}")),
     }
 }
 

@@ -61,10 +61,7 @@ fn run(rt: &HostRuntime) -> anyhow::Result<()> {
     match args.next() {
         Some(path) => match File::open(rt, path.as_str()) {
             Ok(file) => scan(rt, BufReader::new(rt.alloc(), file)?),
-            Err(cause) => {
-                let message = format!(in rt.alloc(); "cannot read {path}: {cause}")?;
-                Err(message.into())
-            }
+            Err(cause) => Err(anyhow!("cannot read {path}: {cause}")),
         },
         None => scan(rt, BufReader::new(rt.alloc(), rt.stdin())?),
     }
