@@ -4,7 +4,7 @@ use Rattle.std.proofs.lemmas.List.{take_at}
 use Rattle.std.proofs.lemmas.Bool.{cond-true, cond-false, le-leb, lt-leb, eq-eqb, ne_eqb, eqb-true, or_left, or_from, and_from, and_parts, and_left, and_right, both_ways, cases_eq, cases_Bool}
 use Rattle.address.specs.Addressing.{controller, reaches}
 use Rattle.burst.specs.Telegram.{telegram_of}
-use Rattle.head.specs.Burst.{Accepted, Bursting, Cabinet, Refused, Replied, Silent}
+use Rattle.head.specs.Burst.{Accepted, Accepting, Bursting, Cabinet, Refused, Replied, Silent}
 use Rattle.head.specs.Bursts.{reply_to}
 use Rattle.head.specs.State.{stations}
 use Rattle.head.specs.declared.burst.Answered.{Answered}
@@ -125,13 +125,13 @@ module _ (R : Rules) (a b : Cabinet) (k : ℕ) (there : k < stations a.head) whe
     refusal OtherMemory why stays drew = absurd (why.2 ready.memory)
     refusal TooFewSlots why stays drew = let clash : ⊥ = omega (arith, why.3, ready.enough) in absurd clash
 
-    pub burst_stepped : (r : Result (Option Answered) BurstFault) → Bursting R a b slots bytes before after' r → o ≡ burst_drew r after' → Stepped R a b (burst bytes room) o k
-    burst_stepped (Err e) did drew = refusal e did.0 (stayed_there a b k did.1) drew
-    burst_stepped (Ok None) did drew =
-        served did.0 nothing (ap (said_at k) drew) (silent (telegram_of bytes) did.1)
+    pub burst_stepped : (r : Result (Option Answered) BurstFault) → Bursting R a b slots bytes before after' r → Accepting a slots bytes before r → o ≡ burst_drew r after' → Stepped R a b (burst bytes room) o k
+    burst_stepped (Err e) did accepted drew = refusal e did.0 (stayed_there a b k did.1) drew
+    burst_stepped (Ok None) did accepted drew =
+        served accepted nothing (ap (said_at k) drew) (silent (telegram_of bytes) did.0)
         (λ out words e. let z : ◌≡◌ {A = ℕ} 0 1 = cc in omega arith)
-    burst_stepped (Ok (Some by)) did drew =
-        let told = answering bytes before after' by did.1 in
+    burst_stepped (Ok (Some by)) did accepted drew =
+        let told = answering bytes before after' by did in
         let shown : Output = reply by.slot (take by.length after') in
-        let here = subst (λ (t : Option Frame). Served R a b k (said_at k shown) t × (concerns (address_at a k) t ≡ false → (words : List ℕ) → shown ≡ reply k words → ⊥)) (sym did.1.stands) told in
-        served did.0 (said_at k shown) (ap (said_at k) drew) here.0 (λ out words e. here.1 out words (sym drew ∙ e))
+        let here = subst (λ (t : Option Frame). Served R a b k (said_at k shown) t × (concerns (address_at a k) t ≡ false → (words : List ℕ) → shown ≡ reply k words → ⊥)) (sym did.stands) told in
+        served accepted.0 (said_at k shown) (ap (said_at k) drew) here.0 (λ out words e. here.1 out words (sym drew ∙ e))

@@ -143,7 +143,7 @@ module _ (R : Rules) (slots : ℕ) (a b : Cabinet) (ready : OfOneStart a slots) 
 
   -- EVERY STEP does for the station in a slot what the model says
   pub stepped : (i : Input) (o : Output) → Step R slots a i o b → Stepped R a b i o k
-  stepped (burst bytes room) o s = burst_stepped R a b k there slots ready bytes room s.before s.after s.long o s.result s.did s.drew
+  stepped (burst bytes room) o s = burst_stepped R a b k there slots ready bytes room s.before s.after s.long o s.result s.did s.accepted s.drew
   stepped (put slot channel outcome) o s = put_stepped slot channel outcome o s
   stepped (condition slot code) o s = condition_stepped slot code o s
   stepped (tick seconds) o s = tick_stepped seconds o s

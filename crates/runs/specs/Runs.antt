@@ -2,7 +2,7 @@
 -- A step is what the call's own contract says of it. Assumes nothing.
 use Rattle.std.specs.Prelude.{◌≡◌, ℕ, ◌≤◌, List, [], ◌∷◌, length, take, Some, None, Ok, Err, Option, Result}
 use Rattle.board.specs.Meaning.{Same}
-use Rattle.head.specs.Burst.{Bursting, Cabinet}
+use Rattle.head.specs.Burst.{Accepting, Bursting, Cabinet}
 use Rattle.head.specs.Calls.{Conditioning, Putting, Ticking}
 use Rattle.head.specs.State.{stations}
 use Rattle.head.specs.declared.burst.Answered.{Answered}
@@ -34,6 +34,7 @@ pub record BurstStep (R : Rules) (slots : ℕ) (a b : Cabinet) (bytes : List ℕ
   pub long : length before ≡ room
   pub result : Result (Option Answered) BurstFault
   pub did : Bursting R a b slots bytes before after result
+  pub accepted : Accepting a slots bytes before result
   pub drew : o ≡ burst_drew result after
 
 pub record PutStep (R : Rules) (slots : ℕ) (a b : Cabinet) (slot channel : ℕ) (outcome : Outcome) (o : Output) : Type 0 where

@@ -70,11 +70,5 @@ fn run_all(rt: &HostRuntime) -> anyhow::Result<()> {
 }
 
 fn main(rt: HostRuntime) -> anyhow::Result<()> {
-    match run_all(&rt) {
-        Ok(()) => Ok(()),
-        Err(error) => {
-            eprintln!(rt; "{error}")?;
-            Err(error)
-        }
-    }
+    run_all(&rt)
 }

@@ -1,5 +1,5 @@
 use Rattle.std.proofs.Common.{◌≡◌, ℕ, Bool, false, cond, List, ◌++◌, length, take, drop, Some, Ok, Option, sym, refl, ap, ◌∙◌, subst}
-use Rattle.head.specs.Burst.{Bursting, Cabinet, has_replied}
+use Rattle.head.specs.Burst.{Accepting, Bursting, Cabinet, has_replied}
 use Rattle.head.specs.declared.burst.Answered.{Answered}
 use Rattle.station.specs.Model.{Rules}
 use Rattle.runs.specs.Calls.{reply}
@@ -18,8 +18,9 @@ returns-in-Some g c =
     let by : Answered = c.in-Some.answered in
     let bytes : List ℕ = take c.taken.result.length c.taken.result.bytes in
     let done = subst (λ (o : Option Answered). Bursting R a b slots c.args.burst.now before after (Ok o)) c.in-Some.is c.in-Ok.ensures.done in
+    let accepted = subst (λ (o : Option Answered). Accepting a slots c.args.burst.now before (Ok o)) c.in-Some.is c.in-Ok.ensures.accepted in
     let listens : c.burst.new.line.talking ≡ false = subst (λ (o : Option Answered). c.burst.new.line.talking ≡ cond (has_replied (Ok o)) false c.args.line.now.talking) c.in-Some.is c.in-Ok.ensures.listens in
-    let over : after ≡ _ = over_front _ before after bytes by.length done.1.answer.count done.1.answer.bytes c.taken.ensures.bytes in
+    let over : after ≡ _ = over_front _ before after bytes by.length done.answer.count done.answer.bytes c.taken.ensures.bytes in
     record {
       same = c.in-Ok.ensures.same;
       step =
@@ -29,6 +30,7 @@ returns-in-Some g c =
             long = refl;
             result = Ok (Some by);
             did = done;
+            accepted = accepted;
             drew = ap (λ (k : ℕ). reply k bytes) c.taken.ensures.slot ∙ ap (λ (l : List ℕ). reply by.slot l) c.taken.ensures.bytes;
           };
       clear = c.taken.ensures.rest;

@@ -17,6 +17,7 @@ returns-in-default g c =
     record {
       same = c.spread.ensures.same;
       served = (moved_by_all R f a b c.spread.ensures.lines c.requires.1.1.1 unnamed refl c.spread.ensures.turned, unnamed, refl);
+      short = tt;
       listens = refl;
     }
 
@@ -36,10 +37,10 @@ returns g c =
         record {
           there = found.0;
           named = found.1;
-          short = c.talk-length.ensures.short;
           count = c.talk-length.ensures.count ∙ ap (λ (p : List ℕ). length (frame_bytes (reply_to f p))) told;
           bytes = c.talk-length.ensures.bytes ∙ ap (λ (p : List ℕ). frame_bytes (reply_to f p) ++ drop c.talk-length.result c.args.reply.now) told;
         },
       );
+      short = c.talk-length.ensures.short;
       listens = c.talk-length.ensures.listens;
     }
