@@ -8,7 +8,7 @@ use Rattle.station.specs.Model.{Rules, answered}
 use Rattle.telegram.specs.Layout.{Frame, frame_bytes}
 use Rattle.head.specs.Bursts.{heard, reply_to}
 use Rattle.head.specs.State.{stations, record_at, station_at}
-use Rattle.head.specs.declared.burst.Answered.{Answered}
+use Rattle.head.specs.declared.arrival.Answered.{Answered}
 use Rattle.head.specs.declared.refusal.BurstFault.{BurstFault}
 use Rattle.head.specs.declared.refusal.BurstFault.TheVariants.{TooLong, ReplyTooShort, OtherMemory, TooFewSlots}
 use Rattle.head.specs.declared.state.Head.{Head}

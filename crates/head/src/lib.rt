@@ -2,7 +2,7 @@
 #![tactic(auto)]
 
 mod answer;
-mod burst;
+mod arrival;
 mod calls;
 mod line;
 mod questions;
@@ -10,7 +10,7 @@ mod refusal;
 mod start;
 mod state;
 
-pub use burst::Answered;
+pub use arrival::Answered;
 pub use line::{LineRecord, Talk};
 pub use refusal::{BurstFault, ConditionFault, PutFault};
 pub use state::Head;

@@ -7,7 +7,7 @@ use Rattle.burst.specs.Telegram.{telegram_of}
 use Rattle.head.specs.Burst.{Accepted, Accepting, Bursting, Cabinet, Refused, Replied, Silent}
 use Rattle.head.specs.Bursts.{reply_to}
 use Rattle.head.specs.State.{stations}
-use Rattle.head.specs.declared.burst.Answered.{Answered}
+use Rattle.head.specs.declared.arrival.Answered.{Answered}
 use Rattle.head.specs.declared.BurstFault.{BurstFault}
 use Rattle.head.specs.declared.BurstFault.TheVariants.{TooLong, ReplyTooShort, OtherMemory, TooFewSlots}
 use Rattle.head.proofs.Moves.{station_no_broadcast}

@@ -6,7 +6,7 @@ use Rattle.burst.specs.Telegram.{telegram_of}
 use Rattle.head.specs.Burst.{Bursting, Cabinet, Silent}
 use Rattle.head.specs.Calls.{put_by, share_by, listed, conditioned, with_code, ticked}
 use Rattle.head.specs.State.{stations, record_at, settings_at}
-use Rattle.head.specs.declared.burst.Answered.{Answered}
+use Rattle.head.specs.declared.arrival.Answered.{Answered}
 use Rattle.head.specs.declared.BurstFault.{BurstFault}
 use Rattle.head.specs.declared.ConditionFault.{ConditionFault}
 use Rattle.head.specs.declared.ConditionFault.TheVariants.{NoStation as NoSuchStation, NoSuchCode}

@@ -5,7 +5,7 @@ use Rattle.board.specs.Meaning.{Same}
 use Rattle.head.specs.Burst.{Accepting, Bursting, Cabinet}
 use Rattle.head.specs.Calls.{Conditioning, Putting, Ticking}
 use Rattle.head.specs.State.{stations}
-use Rattle.head.specs.declared.burst.Answered.{Answered}
+use Rattle.head.specs.declared.arrival.Answered.{Answered}
 use Rattle.head.specs.declared.BurstFault.{BurstFault}
 use Rattle.head.specs.declared.ConditionFault.{ConditionFault}
 use Rattle.head.specs.declared.PutFault.{PutFault}

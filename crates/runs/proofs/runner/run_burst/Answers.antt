@@ -1,6 +1,6 @@
 use Rattle.std.proofs.Common.{◌≡◌, ℕ, Bool, false, cond, List, ◌++◌, length, take, drop, Some, Ok, Option, sym, refl, ap, ◌∙◌, subst}
 use Rattle.head.specs.Burst.{Accepting, Bursting, Cabinet, has_replied}
-use Rattle.head.specs.declared.burst.Answered.{Answered}
+use Rattle.head.specs.declared.arrival.Answered.{Answered}
 use Rattle.station.specs.Model.{Rules}
 use Rattle.runs.specs.Calls.{reply}
 use Rattle.runs.specs.Replaying.{Scene}

@@ -5,7 +5,7 @@ use Rattle.telegram.specs.Layout.{First, NoneStands}
 use Rattle.telegram.specs.View.{Views, frame}
 use Rattle.telegram.specs.declared.Telegram.{Telegram}
 use Rattle.head.proofs.Replies.{said}
-use Rattle.head.proofs.burst.asked.Goals as goal
+use Rattle.head.proofs.arrival.asked.Goals as goal
 
 pub returns-in-Some : goal.returns-in-Some
 returns-in-Some c =

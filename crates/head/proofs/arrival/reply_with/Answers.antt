@@ -3,7 +3,7 @@ use Rattle.payload.specs.Spelled.{spelled}
 use Rattle.telegram.specs.View.{frame}
 use Rattle.head.specs.Bursts.{reply_to}
 use Rattle.head.proofs.Replies.{written_as}
-use Rattle.head.proofs.burst.reply_with.Goals as goal
+use Rattle.head.proofs.arrival.reply_with.Goals as goal
 
 pub returns : goal.returns
 returns c =
