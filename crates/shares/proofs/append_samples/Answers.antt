@@ -6,8 +6,8 @@ use Rattle.std.proofs.lemmas.Int.{to_z-of_z}
 use Rattle.shares.proofs.Rows.{one_more}
 use Rattle.shares.proofs.append_samples.Goals as goal
 
-pub returns-in-err-append : goal.returns-in-err-append
-returns-in-err-append c = IfOk-from_err c.from-residual.result _ c.from-residual.ensures.0
+pub returns-in_err-append : goal.returns-in_err-append
+returns-in_err-append c = IfOk-from_err c.from-residual.result _ c.from-residual.ensures.0
 
 pub loop-sample-preserved : goal.loop-sample-preserved
 loop-sample-preserved c =
@@ -18,7 +18,7 @@ loop-sample-preserved c =
     let fits : SFits w32 z = search rules in
     let wide : SFits w128 c.signed.result = search rules in
     let same = to_z-of_z w128 c.signed.result wide ∙ c.signed.ensures ∙ to_z-of_z w32 z fits in
-    one_more start _ _ _ _ (take i samples) c.loop-sample.invariant c.in-ok-append.ensures same
+    one_more start _ _ _ _ (take i samples) c.loop-sample.invariant c.in_ok-append.ensures same
     ∙ ap (λ (l : List ℤ). start ++ l) (sym (take_more samples i (pos 0) c.loop-sample-test.true))
 
 pub returns : goal.returns

@@ -3,13 +3,13 @@ use Rattle.std.proofs.lemmas.Bool.{cases_lt}
 use Rattle.telegram.specs.Layout.{Stands}
 use Rattle.burst.proofs.Tests.{failed_none}
 use Rattle.burst.proofs.search.search_from.Goals as goal
-use Rattle.burst.proofs.search.search_from.Goals.{then-burst-p-eq-SOH+in-default, else-burst-p-eq-SOH}
+use Rattle.burst.proofs.search.search_from.Goals.{then-burst-p-eq-SOH+in_default, else-burst-p-eq-SOH}
 
 -- no telegram stands where the turn looked
 not_here : (c : goal.Joined-burst-p-eq-SOH) → Stands c.args.burst.now c.loop-p.p → ⊥
 not_here c h =
     elim c.if-burst-p-eq-SOH.branch [
-      | then-burst-p-eq-SOH+in-default w ↦ failed_none c.args.burst.now c.loop-p.p w.in-default.field-0 w.in-default.ensures h
+      | then-burst-p-eq-SOH+in_default w ↦ failed_none c.args.burst.now c.loop-p.p w.in_default.field-0 w.in_default.ensures h
       | else-burst-p-eq-SOH w ↦ w.if-burst-p-eq-SOH.false h.soh
     ]
 

@@ -3,22 +3,22 @@ use Rattle.std.proofs.lemmas.Slice.{pushed}
 use Rattle.capture.specs.declared.hex.HexFault.TheVariants.{HalfByte}
 use Rattle.capture.proofs.Decoding.{Left, digit_small, waits, joins, skips, ends, half_blank, half_comment, wrong, all, all_but_half}
 use Rattle.capture.proofs.hex.decode.Goals as goal
-use Rattle.capture.proofs.hex.decode.Goals.{in-Digit+in-None, in-Digit+in-Some+in-ok-push, in-Blank+else-is-some}
+use Rattle.capture.proofs.hex.decode.Goals.{in-Digit+in-None, in-Digit+in-Some+in_ok-push, in-Blank+else-is_some}
 
-pub returns-then-is-some : goal.returns-then-is-some
-returns-then-is-some c =
+pub returns-then-is_some : goal.returns-then-is_some
+returns-then-is_some c =
     half_blank c.args.line.now c.loop-i.i (vec_items c.loop-i.bytes) c.loop-i-test.true c.loop-i.high
-    (sym c.if-is-some.ensures) (sym c.in-Blank.ensures) c.loop-i.invariant.0
+    (sym c.if-is_some.ensures) (sym c.in-Blank.ensures) c.loop-i.invariant.0
 
-pub returns-then-is-some-2 : goal.returns-then-is-some-2
-returns-then-is-some-2 c =
+pub returns-then-is_some-2 : goal.returns-then-is_some-2
+returns-then-is_some-2 c =
     half_comment c.args.line.now c.loop-i.i (vec_items c.loop-i.bytes) c.loop-i-test.true c.loop-i.high
-    (sym c.if-is-some-2.ensures) (sym c.in-Comment.ensures) c.loop-i.invariant.0
+    (sym c.if-is_some-2.ensures) (sym c.in-Comment.ensures) c.loop-i.invariant.0
 
 pub returns-in-Comment : goal.returns-in-Comment
 returns-in-Comment c =
     ends c.args.line.now c.loop-i.i (vec_items c.loop-i.bytes) c.loop-i-test.true c.loop-i.high
-    (sym c.if-is-some-2.ensures) (sym c.in-Comment.ensures) c.loop-i.invariant.0
+    (sym c.if-is_some-2.ensures) (sym c.in-Comment.ensures) c.loop-i.invariant.0
 
 pub returns-in-Other : goal.returns-in-Other
 returns-in-Other c =
@@ -50,12 +50,12 @@ loop-i-preserved c =
           let is = sym w.in-Digit.ensures in
           let none = subst (λ (h : Option ℕ). Left line i h bytes) w.in-None.is left in
           simp (w.high-is, w.bytes-is) (waits line i bytes inside w.in-Digit.digit is none, digit_small (get_or line i 0) w.in-Digit.digit is)
-      | in-Digit+in-Some+in-ok-push w ↦
+      | in-Digit+in-Some+in_ok-push w ↦
           let is = sym w.in-Digit.ensures in
           let some = subst (λ (h : Option ℕ). Left line i h bytes) w.in-Some.is left in
-          let more = pushed ((16 * w.in-Some.x + w.in-Digit.digit) ∷ []) refl w.in-ok-push.was w.push.ensures.items in
+          let more = pushed ((16 * w.in-Some.x + w.in-Digit.digit) ∷ []) refl w.in_ok-push.was w.push.ensures.items in
           simp (w.high-is, w.bytes-is, more) (joins line i bytes inside w.in-Some.x w.in-Digit.digit is some, tt)
-      | in-Blank+else-is-some w ↦
+      | in-Blank+else-is_some w ↦
           simp (w.high-is, w.bytes-is)
-          (skips line i bytes inside c.loop-i.high (sym w.if-is-some.ensures) (sym w.in-Blank.ensures) left, c.loop-i.invariant.1)
+          (skips line i bytes inside c.loop-i.high (sym w.if-is_some.ensures) (sym w.in-Blank.ensures) left, c.loop-i.invariant.1)
     ]

@@ -15,10 +15,10 @@ loop-i-preserved g c =
     let R : Rules = record { tells = g.B.Board.tells; stored = g.B.Board.stored; restarted = g.B.Board.restarted } in
     let a : Cabinet = record { head = c.args.head.now; memory = c.args.memory.now; shares = g.B.Board.share c.args.board.now } in
     let b : Cabinet = record { head = c.loop-i.head; memory = c.loop-i.memory; shares = g.B.Board.share c.loop-i.board } in
-    let b' : Cabinet = record { head = c.run-one-told.new.head; memory = c.run-one-told.new.memory; shares = g.B.Board.share c.run-one-told.new.board } in
+    let b' : Cabinet = record { head = c.run_one-told.new.head; memory = c.run_one-told.new.memory; shares = g.B.Board.share c.run_one-told.new.board } in
     let s : Scene = record { buffer = c.args.buffer.now; talking = c.args.line.now.talking } in
     let inv = c.loop-i.invariant in
-    let said = c.run-one-told.ensures in
+    let said = c.run_one-told.ensures in
     let traffic : List ℕ = c.args.traffic.now in
     let lent : ℕ = length c.args.buffer.now in
     let list : List Entry = c.loop-i.list in
@@ -26,10 +26,10 @@ loop-i-preserved g c =
     let d : Entry = c.index-list-i-in-loop-i.result in
     let d' : Entry = c.index-list-i.result in (
       said.same ∙ inv.0,
-      calls_kept list i d d' c.run-one-told.result (omega arith) ∙ inv.1,
-      clear_noted list i d d' c.run-one-told.result (omega arith) inv.2 said.clear,
-      run_noted list i d d' c.run-one-told.result (omega arith) traffic lent R (g.B.Board.count c.args.board.now) (g.B.Board.count c.loop-i.board) (length c.loop-i.buffer) a b b' inv.0 c.loop-i.auto.buffer inv.3 said.step,
-      scene_noted list i d d' c.run-one-told.result (omega arith) traffic lent s _ _ inv.4 said.scene,
+      calls_kept list i d d' c.run_one-told.result (omega arith) ∙ inv.1,
+      clear_noted list i d d' c.run_one-told.result (omega arith) inv.2 said.clear,
+      run_noted list i d d' c.run_one-told.result (omega arith) traffic lent R (g.B.Board.count c.args.board.now) (g.B.Board.count c.loop-i.board) (length c.loop-i.buffer) a b b' inv.0 c.loop-i.auto.buffer inv.3 said.step,
+      scene_noted list i d d' c.run_one-told.result (omega arith) traffic lent s _ _ inv.4 said.scene,
     )
 
 pub returns : goal.returns

@@ -9,5 +9,5 @@ returns c =
     record {
       slot = refl;
       bytes = search (rules, overwrites);
-      rest = drop-put_mid 0 (n - 0) (replicate 224 0) c.copy-from-slice.new.self n (omega arith) (omega arith) (search (rules, overwrites)) ∙ drop-replicate n 224 0;
+      rest = drop-put_mid 0 (n - 0) (replicate 224 0) c.copy_from_slice.new.self n (omega arith) (omega arith) (search (rules, overwrites)) ∙ drop-replicate n 224 0;
     }

@@ -10,10 +10,10 @@ pub returns : goal.returns
 returns c =
     let p : List ℕ = c.args.payload.now in
     let window : List ℕ = c.args.window.now in
-    let copied = c.copy-from-slice.ensures.after ∙ take_rest p 3 in
+    let copied = c.copy_from_slice.ensures.after ∙ take_rest p 3 in
     record {
       replied = search rules;
       after =
-          put_over window (drop 3 p) c.copy-from-slice.new.self (word p 0) _ copied (simp length-drop (omega arith))
+          put_over window (drop 3 p) c.copy_from_slice.new.self (word p 0) _ copied (simp length-drop (omega arith))
           ∙ well (spelled c.alone-2.result) (overwritten window (word p 0) (drop 3 p)) window c.alone-2.ensures;
     }

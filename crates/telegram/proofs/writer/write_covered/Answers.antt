@@ -6,4 +6,4 @@ use Rattle.telegram.proofs.writer.write_covered.Goals as goal
 pub returns : goal.returns
 returns c =
     let fields = c.args.fields.now in
-    laid (frame fields) c.args.buffer.now c.copy-from-slice.new.self c.copy-from-slice-2.new.self _ _ c.copy-from-slice.ensures.after c.copy-from-slice-2.ensures.after refl (omega arith) (omega arith)
+    laid (frame fields) c.args.buffer.now c.copy_from_slice.new.self c.copy_from_slice-2.new.self _ _ c.copy_from_slice.ensures.after c.copy_from_slice-2.ensures.after refl (omega arith) (omega arith)

@@ -4,4 +4,4 @@ use Rattle.umb_replay.proofs.script.lay.Goals as goal
 
 pub returns : goal.returns
 returns c =
-    put_over c.args.memory.now c.args.bytes.now c.copy-from-slice.new.self c.args.first _ c.copy-from-slice.ensures.after (omega arith)
+    put_over c.args.memory.now c.args.bytes.now c.copy_from_slice.new.self c.args.first _ c.copy_from_slice.ensures.after (omega arith)

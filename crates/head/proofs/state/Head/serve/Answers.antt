@@ -7,13 +7,13 @@ use Rattle.head.specs.Bursts.{reply_to}
 use Rattle.head.proofs.Cabinets.{moved_by_one, moved_by_all}
 use Rattle.head.proofs.state.Head.serve.Goals as goal
 
-pub returns-in-default : goal.returns-in-default
-returns-in-default g c =
+pub returns-in_default : goal.returns-in_default
+returns-in_default g c =
     let R : Rules = record { tells = g.B.Board.tells; stored = g.B.Board.stored; restarted = g.B.Board.restarted } in
     let f : Frame = frame c.args.fields.now in
     let a : Cabinet = record { head = c.args.self.now; memory = c.args.memory.now; shares = g.B.Board.share c.args.board.now } in
     let b : Cabinet = record { head = c.spread.new.self; memory = c.args.memory.now; shares = g.B.Board.share c.spread.new.board } in
-    let unnamed = c.in-default.ensures in
+    let unnamed = c.in_default.ensures in
     record {
       same = c.spread.ensures.same;
       served = (moved_by_all R f a b c.spread.ensures.lines c.requires.1.1.1 unnamed refl c.spread.ensures.turned, unnamed, refl);
@@ -25,9 +25,9 @@ pub returns : goal.returns
 returns g c =
     let R : Rules = record { tells = g.B.Board.tells; stored = g.B.Board.stored; restarted = g.B.Board.restarted } in
     let f : Frame = frame c.args.fields.now in
-    let done = c.answer-at-payload.ensures in
+    let done = c.answer_at-payload.ensures in
     let a : Cabinet = record { head = c.args.self.now; memory = c.args.memory.now; shares = g.B.Board.share c.args.board.now } in
-    let b : Cabinet = record { head = c.answer-at-payload.new.self; memory = c.answer-at-payload.new.memory; shares = g.B.Board.share c.answer-at-payload.new.board } in
+    let b : Cabinet = record { head = c.answer_at-payload.new.self; memory = c.answer_at-payload.new.memory; shares = g.B.Board.share c.answer_at-payload.new.board } in
     let found = c.in-Some.ensures in
     let told = done.became.replied in
     record {

@@ -14,12 +14,12 @@ loop-slot-preserved g c =
     let T : Station → Station = after_broadcast R (frame c.args.fields.now) in
     let lines : Lines = c.args.self.now.lines in
     let slot : ℕ = c.loop-slot.slot in
-    let said = c.overhear-at.ensures in
+    let said = c.overhear_at.ensures in
     let entry : ℕ → List ℕ → Station = λ k settings. station_of (line_at lines k) (record_at c.args.self.now k) settings (g.B.Board.share c.args.board.now k) in
     let before : ℕ → List ℕ → Station = λ k settings. station_of (line_at lines k) (record_at c.loop-slot.self k) settings (g.B.Board.share c.loop-slot.board k) in
-    let after : ℕ → List ℕ → Station = λ k settings. station_of (line_at lines k) (record_at c.overhear-at.new.self k) settings (g.B.Board.share c.overhear-at.new.board k) in
+    let after : ℕ → List ℕ → Station = λ k settings. station_of (line_at lines k) (record_at c.overhear_at.new.self k) settings (g.B.Board.share c.overhear_at.new.board k) in
     let turned : (settings : List ℕ) → after slot settings ≡ T (before slot settings) = λ settings.
-    subst (λ (t : Lines). station_of (line_at t slot) (record_at c.overhear-at.new.self slot) settings (g.B.Board.share c.overhear-at.new.board slot) ≡ T (station_of (line_at t slot) (record_at c.loop-slot.self slot) settings (g.B.Board.share c.loop-slot.board slot))) c.loop-slot.invariant.0 (said.turned settings) in (
+    subst (λ (t : Lines). station_of (line_at t slot) (record_at c.overhear_at.new.self slot) settings (g.B.Board.share c.overhear_at.new.board slot) ≡ T (station_of (line_at t slot) (record_at c.loop-slot.self slot) settings (g.B.Board.share c.loop-slot.board slot))) c.loop-slot.invariant.0 (said.turned settings) in (
       said.lines ∙ c.loop-slot.invariant.0,
       said.same ∙ c.loop-slot.invariant.1,
       λ k settings.

@@ -3,14 +3,14 @@ use Rattle.lines.specs.Rules.{sound}
 use Rattle.lines.proofs.Made.{is_sound, none_broken}
 use Rattle.lines.proofs.table.Lines.new.Goals as goal
 
-pub invariant-of-result : goal.invariant-of-result
-invariant-of-result c = (
-  c.table-of.ensures.long,
+pub invariant_of-result : goal.invariant_of-result
+invariant_of-result c = (
+  c.table_of.ensures.long,
   (
     omega arith,
     (
-      ap (sound c.args.memory) c.table-of.ensures.held
-          ∙ is_sound c.args.memory c.args.lines.now (omega arith) (omega arith) (sym c.if-not-every.ensures) (sym c.if-not-all-differ.ensures) (sym c.if-not-every-2.ensures) (sym c.if-not-all-apart.ensures),
+      ap (sound c.args.memory) c.table_of.ensures.held
+          ∙ is_sound c.args.memory c.args.lines.now (omega arith) (omega arith) (sym c.if-not-every.ensures) (sym c.if-not-all_differ.ensures) (sym c.if-not-every-2.ensures) (sym c.if-not-all_apart.ensures),
       tt,
     ),
   ),
@@ -18,7 +18,7 @@ invariant-of-result c = (
 
 pub returns : goal.returns
 returns c = (
-  none_broken c.args.memory c.args.lines.now (omega arith) (omega arith) (sym c.if-not-every.ensures) (sym c.if-not-all-differ.ensures) (sym c.if-not-every-2.ensures) (sym c.if-not-all-apart.ensures),
-  c.table-of.ensures.held,
+  none_broken c.args.memory c.args.lines.now (omega arith) (omega arith) (sym c.if-not-every.ensures) (sym c.if-not-all_differ.ensures) (sym c.if-not-every-2.ensures) (sym c.if-not-all_apart.ensures),
+  c.table_of.ensures.held,
   refl,
 )

@@ -14,10 +14,10 @@ returns-in-Some c =
       back = (refl, bits_back binary32 c.args.bits x.value h x.number e);
     })
 
-pub returns-in-Some-from-bits : goal.returns-in-Some-from-bits
-returns-in-Some-from-bits c =
-    let x = c.in-Some-from-bits.x in
-    let e = c.in-Some-from-bits.ensures in
+pub returns-in-Some-from_bits : goal.returns-in-Some-from_bits
+returns-in-Some-from_bits c =
+    let x = c.in-Some-from_bits.x in
+    let e = c.in-Some-from_bits.ensures in
     let h : c.args.bits < 18446744073709551616 = simp c.in-F64.is at c.requires in
     simp c.in-F64.is (record {
       value = sym (made_from_bits binary64 double c.args.bits x.value x.number x.held e);

@@ -7,19 +7,19 @@ use Rattle.readings.proofs.reading.Reading.pattern.Goals as goal
 pub returns-in-F32 : goal.returns-in-F32
 returns-in-F32 c =
     let x = c.in-F32.x in
-    let e = c.to-bits.ensures in
+    let e = c.to_bits.ensures in
     simp c.in-F32.is (record {
       value = e;
-      bound = c.to-bits.type-inv;
+      bound = c.to_bits.type_inv;
       back = ap (from_bits binary32 single) e ∙ made_from_own_bits binary32 single x.value x.number x.held;
     })
 
 pub returns-in-F64 : goal.returns-in-F64
 returns-in-F64 c =
     let x = c.in-F64.x in
-    let e = c.to-bits-in-F64.ensures in
+    let e = c.to_bits-in-F64.ensures in
     simp c.in-F64.is (record {
       value = e;
-      bound = c.to-bits-in-F64.type-inv;
+      bound = c.to_bits-in-F64.type_inv;
       back = ap (from_bits binary64 double) e ∙ made_from_own_bits binary64 double x.value x.number x.held;
     })

@@ -13,7 +13,7 @@ returns c =
     let code : c.code-code.result ≡ kind_code (kind_of v) = c.code-code.ensures ∙ ap kind_code c.kind.ensures in
     let len = length-little_endian (size_of (kind_of v)) (pattern v) in
     record {
-      front = front v c.code-code.result c.pattern.result c.to-le-bytes.result code p.value (c.to-le-bytes.ensures ∙ eight_bytes c.pattern.result);
+      front = front v c.code-code.result c.pattern.result c.to_le_bytes.result code p.value (c.to_le_bytes.ensures ∙ eight_bytes c.pattern.result);
       len = omega arith;
       back = read_own v c.pattern.result p.value p.bound p.back;
     }
