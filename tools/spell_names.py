@@ -141,7 +141,7 @@ def spans(text):
     """Where antt stands in a file of src/: imports, clauses and ghost fields."""
     for m in re.finditer(r"(?m)^\s*ghost use [^;]*;", text):
         yield m.start(), m.end()
-    for m in re.finditer(r"\b(?:requires|ensures|ghost)\*?(?: \w+)?:? ?(?:by )?\{", text):
+    for m in re.finditer(r"\b(?:requires|ensures|ghost)\*?(?: \w+)?(?::| =)? ?(?:by )?\{", text):
         depth, at = 0, m.end() - 1
         while at < len(text):
             depth += {"{": 1, "}": -1}.get(text[at], 0)

@@ -22,10 +22,10 @@ impl Head {
         slot: usize,
         fields: &Fields<'_>,
     ) -> Payload
-        requires { (slot < stations self.old) × ((stations self.old ≤ count board.old) × (length memory.old ≡ self.old.lines.memory)) }
-        ensures same { count board.new ≡ count board.old }
+        requires { (slot < stations self.old) × ((stations self.old ≤ B.count board.old) × (length memory.old ≡ self.old.lines.memory)) }
+        ensures same { B.count board.new ≡ B.count board.old }
         ensures lines { self.new.lines ≡ self.old.lines }
-        ensures became { Became (answered (record { tells = tells; stored = stored; restarted = restarted }) (station_at self.old memory.old (share board.old) slot) (frame fields.now)) (spelled result) (station_at self.new memory.new (share board.new) slot) slot (share board.old) (share board.new) }
+        ensures became { Became (answered (record { tells = B.tells; stored = B.stored; restarted = B.restarted }) (station_at self.old memory.old (B.share board.old) slot) (frame fields.now)) (spelled result) (station_at self.new memory.new (B.share board.new) slot) slot (B.share board.old) (B.share board.new) }
         ensures records { (k : ℕ) → (k ≢ slot) → record_at self.new k ≡ record_at self.old k }
         ensures window { OnlyWindow (line_at self.old.lines slot).first (line_at self.old.lines slot).size memory.old memory.new }
     {
@@ -44,11 +44,11 @@ impl Head {
 
     // The station in this slot acts on a broadcast, if that reaches it.
     fn overhear_at<B: Board>(&mut self, board: &mut B, slot: usize, fields: &Fields<'_>)
-        requires { (slot < stations self.old) × (stations self.old ≤ count board.old) }
-        ensures same { count board.new ≡ count board.old }
+        requires { (slot < stations self.old) × (stations self.old ≤ B.count board.old) }
+        ensures same { B.count board.new ≡ B.count board.old }
         ensures lines { self.new.lines ≡ self.old.lines }
-        ensures others { (k : ℕ) → (k ≢ slot) → (record_at self.new k ≡ record_at self.old k) × (share board.new k ≡ share board.old k) }
-        ensures turned { (settings : List ℕ) → (station_of (line_at self.old.lines slot) (record_at self.new slot) settings (share board.new slot)) ≡ after_broadcast (record { tells = tells; stored = stored; restarted = restarted }) (frame fields.now) (station_of (line_at self.old.lines slot) (record_at self.old slot) settings (share board.old slot)) }
+        ensures others { (k : ℕ) → (k ≢ slot) → (record_at self.new k ≡ record_at self.old k) × (B.share board.new k ≡ B.share board.old k) }
+        ensures turned { (settings : List ℕ) → (station_of (line_at self.old.lines slot) (record_at self.new slot) settings (B.share board.new slot)) ≡ after_broadcast (record { tells = B.tells; stored = B.stored; restarted = B.restarted }) (frame fields.now) (station_of (line_at self.old.lines slot) (record_at self.old slot) settings (B.share board.old slot)) }
     {
         let Some(line) = self.lines.line(slot) else {
             unreachable()
@@ -60,10 +60,10 @@ impl Head {
 
     // Every station that a broadcast reaches acts.
     pub(crate) fn spread<B: Board>(&mut self, board: &mut B, fields: &Fields<'_>)
-        requires { stations self.old ≤ count board.old }
-        ensures same { count board.new ≡ count board.old }
+        requires { stations self.old ≤ B.count board.old }
+        ensures same { B.count board.new ≡ B.count board.old }
         ensures lines { self.new.lines ≡ self.old.lines }
-        ensures turned { (k : ℕ) (settings : List ℕ) → (station_of (line_at self.old.lines k) (record_at self.new k) settings (share board.new k)) ≡ (if nat_lt k (stations self.old) then after_broadcast (record { tells = tells; stored = stored; restarted = restarted }) (frame fields.now) (station_of (line_at self.old.lines k) (record_at self.old k) settings (share board.old k)) else station_of (line_at self.old.lines k) (record_at self.old k) settings (share board.old k)) }
+        ensures turned { (k : ℕ) (settings : List ℕ) → (station_of (line_at self.old.lines k) (record_at self.new k) settings (B.share board.new k)) ≡ (if nat_lt k (stations self.old) then after_broadcast (record { tells = B.tells; stored = B.stored; restarted = B.restarted }) (frame fields.now) (station_of (line_at self.old.lines k) (record_at self.old k) settings (B.share board.old k)) else station_of (line_at self.old.lines k) (record_at self.old k) settings (B.share board.old k)) }
     {
         let count = self.lines.count();
         for slot in 0..count {

@@ -82,9 +82,9 @@ impl Head {
         fields: &Fields<'_>,
         reply: &mut [u8],
     ) -> Option<Answered>
-        requires { (stations self.old ≤ count board.old) × ((length memory.old ≡ self.old.lines.memory) × ((224 ≤ length reply.old) × (controller fields.now.sender.0 ≡ true))) }
-        ensures same { count board.new ≡ count board.old }
-        ensures served { Served (record { tells = tells; stored = stored; restarted = restarted }) (frame fields.now) (record { head = self.old; memory = memory.old; shares = share board.old }) (record { head = self.new; memory = memory.new; shares = share board.new }) reply.old reply.new result }
+        requires { (stations self.old ≤ B.count board.old) × ((length memory.old ≡ self.old.lines.memory) × ((224 ≤ length reply.old) × (controller fields.now.sender.0 ≡ true))) }
+        ensures same { B.count board.new ≡ B.count board.old }
+        ensures served { Served (record { tells = B.tells; stored = B.stored; restarted = B.restarted }) (frame fields.now) (record { head = self.old; memory = memory.old; shares = B.share board.old }) (record { head = self.new; memory = memory.new; shares = B.share board.new }) reply.old reply.new result }
         ensures short { IfSome result (λ answered. answered.length ≤ 224) }
         ensures listens { line.new.talking ≡ (if is_some result then false else line.old.talking) }
     {
@@ -106,9 +106,9 @@ impl Head {
         burst: &[u8],
         reply: &mut [u8],
     ) -> Result<Option<Answered>, BurstFault>
-        ensures same { count board.new ≡ count board.old }
-        ensures done { Bursting (record { tells = tells; stored = stored; restarted = restarted }) (record { head = self.old; memory = memory.old; shares = share board.old }) (record { head = self.new; memory = memory.new; shares = share board.new }) (count board.old) burst.now reply.old reply.new result }
-        ensures accepted { Accepting (record { head = self.old; memory = memory.old; shares = share board.old }) (count board.old) burst.now reply.old result }
+        ensures same { B.count board.new ≡ B.count board.old }
+        ensures done { Bursting (record { tells = B.tells; stored = B.stored; restarted = B.restarted }) (record { head = self.old; memory = memory.old; shares = B.share board.old }) (record { head = self.new; memory = memory.new; shares = B.share board.new }) (B.count board.old) burst.now reply.old reply.new result }
+        ensures accepted { Accepting (record { head = self.old; memory = memory.old; shares = B.share board.old }) (B.count board.old) burst.now reply.old result }
         ensures listens { line.new.talking ≡ (if has_replied result then false else line.old.talking) }
     {
         if burst.len() > 512 {

@@ -26,8 +26,8 @@ impl Head {
         channel: u16,
         outcome: Outcome,
     ) -> Result<(), PutFault>
-        ensures same { count board.new ≡ count board.old }
-        ensures put { Putting stored (stations self.now) (count board.old) (share board.old) (share board.new) slot channel outcome result }
+        ensures same { B.count board.new ≡ B.count board.old }
+        ensures put { Putting B.stored (stations self.now) (B.count board.old) (B.share board.old) (B.share board.new) slot channel outcome result }
     {
         if board.slots() < self.lines.count() {
             return Err(PutFault::TooFewSlots);

@@ -21,7 +21,7 @@ impl Head {
         memory: usize,
         board: &B,
     ) -> Result<Head, StartRefusal>
-        ensures { MatchResult result (λ h. Started lines.now memory (count board.now) h) (λ e. NotStarted lines.now memory (count board.now) e) }
+        ensures { MatchResult result (λ h. Started lines.now memory (B.count board.now) h) (λ e. NotStarted lines.now memory (B.count board.now) e) }
     {
         let table = match Lines::new(lines, memory) {
             Ok(table) => table,

@@ -28,7 +28,7 @@ pub(crate) fn every<T: Test>(test: &T, lines: &[Line]) -> bool
 pub(crate) struct IsStation;
 
 impl Test for IsStation {
-    ghost asks = { λ _. rules.is-station };
+    ghost asks = { λ _. rules.is_station };
 
     fn passes(&self, line: &Line) -> bool {
         line.address.is_station()
@@ -41,7 +41,7 @@ pub(crate) struct GoodWindow {
 }
 
 impl Test for GoodWindow {
-    ghost asks = { λ t. rules.good-window t.memory };
+    ghost asks = { λ t. rules.good_window t.memory };
 
     fn passes(&self, line: &Line) -> bool {
         let end = line.first as usize + line.size as usize;

@@ -64,8 +64,8 @@ fn run_burst<B: Board>(
     burst: &[u8],
     reply: &mut [u8],
 ) -> Told
-    ensures same { count board.new ≡ count board.old }
-    ensures step { BurstStep (record { tells = tells; stored = stored; restarted = restarted }) (count board.old) (record { head = head.entry.now; memory = memory.old; shares = share board.old }) (record { head = head.exit.now; memory = memory.new; shares = share board.new }) burst.now (length reply.old) (output_of result) }
+    ensures same { B.count board.new ≡ B.count board.old }
+    ensures step { BurstStep (record { tells = B.tells; stored = B.stored; restarted = B.restarted }) (B.count board.old) (record { head = head.old; memory = memory.old; shares = B.share board.old }) (record { head = head.new; memory = memory.new; shares = B.share board.new }) burst.now (length reply.old) (output_of result) }
     ensures clear { Clear result }
     ensures scene { (record { buffer = reply.new; talking = line.new.talking }) ≡ left_by (record { buffer = reply.old; talking = line.old.talking }) (output_of result) }
 {
@@ -88,8 +88,8 @@ fn run_one<B: Board>(
     buffer: &mut [u8],
     call: Call,
 ) -> Told
-    ensures same { count board.new ≡ count board.old }
-    ensures step { Step (record { tells = tells; stored = stored; restarted = restarted }) (count board.old) (record { head = head.entry.now; memory = memory.old; shares = share board.old }) (input_of traffic.now (length buffer.old) call) (output_of result) (record { head = head.exit.now; memory = memory.new; shares = share board.new }) }
+    ensures same { B.count board.new ≡ B.count board.old }
+    ensures step { Step (record { tells = B.tells; stored = B.stored; restarted = B.restarted }) (B.count board.old) (record { head = head.old; memory = memory.old; shares = B.share board.old }) (input_of traffic.now (length buffer.old) call) (output_of result) (record { head = head.new; memory = memory.new; shares = B.share board.new }) }
     ensures clear { Clear result }
     ensures scene { (record { buffer = buffer.exit.now; talking = line.new.talking }) ≡ left_by (record { buffer = buffer.entry.now; talking = line.old.talking }) (output_of result) }
 {
@@ -133,8 +133,8 @@ pub fn replay<B: Board>(
     buffer: &mut [u8],
     list: &mut [Entry],
 ) -> Result<(), ReplayRefusal>
-    ensures same { count board.new ≡ count board.old }
-    ensures replayed { Replaying (record { tells = tells; stored = stored; restarted = restarted }) (count board.old) (record { head = head.entry.now; memory = memory.old; shares = share board.old }) (record { head = head.exit.now; memory = memory.new; shares = share board.new }) traffic.now (length buffer.old) list.old list.new result }
+    ensures same { B.count board.new ≡ B.count board.old }
+    ensures replayed { Replaying (record { tells = B.tells; stored = B.stored; restarted = B.restarted }) (B.count board.old) (record { head = head.old; memory = memory.old; shares = B.share board.old }) (record { head = head.new; memory = memory.new; shares = B.share board.new }) traffic.now (length buffer.old) list.old list.new result }
     ensures scene { Leaving traffic.now (length buffer.entry.now) list.new (record { buffer = buffer.entry.now; talking = line.old.talking }) (record { buffer = buffer.exit.now; talking = line.new.talking }) result }
 {
     if memory.len() != head.memory() {

@@ -82,9 +82,9 @@ fn command<B: Board>(
     code: u8,
     payload: &[u8],
 ) -> Payload
-    requires { slot < count board.old }
-    ensures same { count board.new ≡ count board.old }
-    ensures became { model.Became (model.command (record { tells = tells; stored = stored; restarted = restarted }) (model.station_of line state.old window.old (share board.old slot)) code payload.now) (spelled result) (model.station_of line state.new window.new (share board.new slot)) slot (share board.old) (share board.new) }
+    requires { slot < B.count board.old }
+    ensures same { B.count board.new ≡ B.count board.old }
+    ensures became { model.Became (model.command (record { tells = B.tells; stored = B.stored; restarted = B.restarted }) (model.station_of line state.old window.old (B.share board.old slot)) code payload.now) (spelled result) (model.station_of line state.new window.new (B.share board.new slot)) slot (B.share board.old) (B.share board.new) }
 {
     match code {
         0x21 => read_settings(window, payload),
@@ -123,9 +123,9 @@ fn judge<B: Board>(
     slot: usize,
     fields: &Fields<'_>,
 ) -> Payload
-    requires { slot < count board.old }
-    ensures same { count board.new ≡ count board.old }
-    ensures became { model.Became (model.judged (record { tells = tells; stored = stored; restarted = restarted }) (model.station_of line state.old window.old (share board.old slot)) (frame fields.now)) (spelled result) (model.station_of line state.new window.new (share board.new slot)) slot (share board.old) (share board.new) }
+    requires { slot < B.count board.old }
+    ensures same { B.count board.new ≡ B.count board.old }
+    ensures became { model.Became (model.judged (record { tells = B.tells; stored = B.stored; restarted = B.restarted }) (model.station_of line state.old window.old (B.share board.old slot)) (frame fields.now)) (spelled result) (model.station_of line state.new window.new (B.share board.new slot)) slot (B.share board.old) (B.share board.new) }
 {
     if fields.version != 0x10 {
         return alone(0x12);
@@ -157,9 +157,9 @@ pub fn respond<B: Board>(
     slot: usize,
     fields: &Fields<'_>,
 ) -> Option<Payload>
-    ensures same { count board.new ≡ count board.old }
-    ensures none { is_some result ≡ nat_lt slot (count board.old) }
-    ensures became { MatchOption result (Unchanged state.old state.new window.old window.new (share board.old) (share board.new)) (λ p. model.Became (model.answered (record { tells = tells; stored = stored; restarted = restarted }) (model.station_of line state.old window.old (share board.old slot)) (frame fields.now)) (spelled p) (model.station_of line state.new window.new (share board.new slot)) slot (share board.old) (share board.new)) }
+    ensures same { B.count board.new ≡ B.count board.old }
+    ensures none { is_some result ≡ nat_lt slot (B.count board.old) }
+    ensures became { MatchOption result (Unchanged state.old state.new window.old window.new (B.share board.old) (B.share board.new)) (λ p. model.Became (model.answered (record { tells = B.tells; stored = B.stored; restarted = B.restarted }) (model.station_of line state.old window.old (B.share board.old slot)) (frame fields.now)) (spelled p) (model.station_of line state.new window.new (B.share board.new slot)) slot (B.share board.old) (B.share board.new)) }
 {
     if slot >= board.slots() {
         return None;
@@ -176,10 +176,10 @@ pub fn overhear<B: Board>(
     slot: usize,
     fields: &Fields<'_>,
 ) -> bool
-    ensures same { count board.new ≡ count board.old }
-    ensures heard { result ≡ nat_lt slot (count board.old) }
-    ensures others { SameBut slot (share board.old) (share board.new) }
-    ensures after { (line : ALine) (settings : List ℕ) → model.station_of line state.new settings (share board.new slot) ≡ (if result then model.overheard (record { tells = tells; stored = stored; restarted = restarted }) (model.station_of line state.old settings (share board.old slot)) (frame fields.now) else model.station_of line state.old settings (share board.old slot)) }
+    ensures same { B.count board.new ≡ B.count board.old }
+    ensures heard { result ≡ nat_lt slot (B.count board.old) }
+    ensures others { SameBut slot (B.share board.old) (B.share board.new) }
+    ensures after { (line : ALine) (settings : List ℕ) → model.station_of line state.new settings (B.share board.new slot) ≡ (if result then model.overheard (record { tells = B.tells; stored = B.stored; restarted = B.restarted }) (model.station_of line state.old settings (B.share board.old slot)) (frame fields.now) else model.station_of line state.old settings (B.share board.old slot)) }
 {
     if slot >= board.slots() {
         return false;

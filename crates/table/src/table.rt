@@ -121,13 +121,13 @@ impl<'a> Table<'a> {
 impl Board for Table<'_> {
     ghost count = { λ _. 32 };
 
-    ghost share = { λ t slot. share-of slot t.records.now };
+    ghost share = { λ t slot. share_of slot t.records.now };
 
-    ghost tells = { table-tells };
+    ghost tells = { table_tells };
 
-    ghost stored = { table-stored };
+    ghost stored = { table_stored };
 
-    ghost restarted = { table-restarted };
+    ghost restarted = { table_restarted };
 
     fn slots(&self) -> usize {
         SLOTS

@@ -7,7 +7,7 @@ use Rattle.shares.proofs.Rows.{one_more}
 use Rattle.shares.proofs.append_samples.Goals as goal
 
 pub returns-in_err-append : goal.returns-in_err-append
-returns-in_err-append c = IfOk-from_err c.from-residual.result _ c.from-residual.ensures.0
+returns-in_err-append c = IfOk-from_err c.from_residual.result _ c.from_residual.ensures.0
 
 pub loop-sample-preserved : goal.loop-sample-preserved
 loop-sample-preserved c =

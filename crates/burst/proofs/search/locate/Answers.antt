@@ -6,7 +6,7 @@ use Rattle.burst.proofs.search.locate.Goals as goal
 pub returns-in_err-len : goal.returns-in_err-len
 returns-in_err-len c =
     let burst = c.args.burst.now in
-    let p = err_from_is_err_and c.from-residual.result c.from-residual.ensures.1 in
+    let p = err_from_is_err_and c.from_residual.result c.from_residual.ensures.1 in
     let first = c.in-Some-first_soh.ensures in
     let none = c.in_default.ensures in
     rw (p.1, p.2) (
