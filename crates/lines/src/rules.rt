@@ -14,7 +14,7 @@ pub(crate) trait Test {
 }
 
 pub(crate) fn every<T: Test>(test: &T, lines: &[Line]) -> bool
-    ensures { result ≡ rules.every (asks test.now) lines.now }
+    ensures { result ≡ rules.every (T.asks test.now) lines.now }
 {
     for line in lines {
         if !test.passes(line) {

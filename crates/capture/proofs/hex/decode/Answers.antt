@@ -3,7 +3,7 @@ use Rattle.std.proofs.lemmas.Slice.{pushed}
 use Rattle.capture.specs.declared.hex.HexFault.TheVariants.{HalfByte}
 use Rattle.capture.proofs.Decoding.{Left, digit_small, waits, joins, skips, ends, half_blank, half_comment, wrong, all, all_but_half}
 use Rattle.capture.proofs.hex.decode.Goals as goal
-use Rattle.capture.proofs.hex.decode.Goals.{in-Digit+in-None, in-Digit+in-Some+in_ok-push, in-Blank+else-is_some}
+use Rattle.capture.proofs.hex.decode.Goals.{in-Digit+in-None, in-Digit+in-Some+in_ok-push-in-Some, in-Blank+else-is_some}
 
 pub returns-then-is_some : goal.returns-then-is_some
 returns-then-is_some c =
@@ -50,10 +50,10 @@ loop-i-preserved c =
           let is = sym w.in-Digit.ensures in
           let none = subst (λ (h : Option ℕ). Left line i h bytes) w.in-None.is left in
           simp (w.high-is, w.bytes-is) (waits line i bytes inside w.in-Digit.digit is none, digit_small (get_or line i 0) w.in-Digit.digit is)
-      | in-Digit+in-Some+in_ok-push w ↦
+      | in-Digit+in-Some+in_ok-push-in-Some w ↦
           let is = sym w.in-Digit.ensures in
           let some = subst (λ (h : Option ℕ). Left line i h bytes) w.in-Some.is left in
-          let more = pushed ((16 * w.in-Some.x + w.in-Digit.digit) ∷ []) refl w.in_ok-push.was w.push.ensures.items in
+          let more = pushed ((16 * w.in-Some.x + w.in-Digit.digit) ∷ []) refl w.in_ok-push-in-Some.was w.push.ensures.items in
           simp (w.high-is, w.bytes-is, more) (joins line i bytes inside w.in-Some.x w.in-Digit.digit is some, tt)
       | in-Blank+else-is_some w ↦
           simp (w.high-is, w.bytes-is)
