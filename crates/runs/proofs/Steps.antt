@@ -160,8 +160,8 @@ module _ (R : Rules) (slots : ℕ) (a b : Cabinet) where
 
   kept_burst : (bytes before after' : List ℕ) (r : Result (Option Answered) BurstFault) → Bursting R a b slots bytes before after' r → Kept a b
   kept_burst bytes before after' (Err e) did = record { lines = did.1.lines; long = ap length did.1.memory }
-  kept_burst bytes before after' (Ok None) did = kept_silent (telegram_of bytes) did.1
-  kept_burst bytes before after' (Ok (Some by)) did = record { lines = did.1.moved.lines; long = did.1.moved.long }
+  kept_burst bytes before after' (Ok None) did = kept_silent (telegram_of bytes) did.0
+  kept_burst bytes before after' (Ok (Some by)) did = record { lines = did.moved.lines; long = did.moved.long }
 
   pub step_keeps : (i : Input) (o : Output) → Step R slots a i o b → Kept a b
   step_keeps (burst bytes room) o s = kept_burst bytes s.before s.after s.result s.did
