@@ -1,5 +1,5 @@
 -- Telegrams asked and written. Assumes nothing.
-use Rattle.std.proofs.Common.{◌≡◌, ℕ, ◌+◌, ◌≤◌, List, [], ◌++◌, length, drop, Some, sym, ap, ◌∙◌, arith, length-append}
+use Rattle.std.proofs.Common.{◌≡◌, ℕ, ◌+◌, ◌≤◌, List, ◌++◌, length, drop, Some, sym, ap, ◌∙◌, arith, length-append}
 use Rattle.burst.specs.Telegram.{telegram_of}
 use Rattle.burst.proofs.Lowest.{first_is}
 use Rattle.telegram.specs.Layout.{First, Frame, frame_of, frame_at, frame_bytes}

@@ -1,5 +1,5 @@
 -- A burst, for every station of the cabinet. Assumes nothing.
-use Rattle.std.proofs.Common.{◌≡◌, ℕ, ◌<◌, ◌≤◌, Bool, true, false, cond, ◌&&◌, ◌||◌, eqb, leb, List, length, take, Some, None, Ok, Err, Option, Result, sym, refl, ap, ◌∙◌, subst, inl, inr, arith}
+use Rattle.std.proofs.Common.{◌≡◌, ℕ, ◌<◌, true, false, cond, ◌&&◌, eqb, leb, List, length, take, Some, None, Ok, Err, Option, Result, sym, refl, ap, ◌∙◌, subst, inl, inr, arith}
 use Rattle.std.proofs.lemmas.List.{take_at}
 use Rattle.std.proofs.lemmas.Bool.{cond-true, cond-false, le-leb, lt-leb, eq-eqb, ne_eqb, eqb-true, or_left, or_from, and_from, and_parts, and_left, and_right, both_ways, cases_eq, cases_Bool}
 use Rattle.address.specs.Addressing.{controller, reaches}
@@ -15,7 +15,7 @@ use Rattle.lines.specs.Making.{line_at}
 use Rattle.lines.proofs.Apart.{addresses_differ, station_there}
 use Rattle.station.specs.Model.{Rules, Station, answered}
 use Rattle.telegram.specs.Layout.{Frame, frame_bytes}
-use Rattle.runs.specs.Calls.{Output, burst, reply, silence, burst_refused}
+use Rattle.runs.specs.Calls.{Output, burst, reply, burst_refused}
 use Rattle.runs.specs.Feeding.{Said, nothing, replied, refused, a_burst, after, says, after_telegram, reply_by}
 use Rattle.runs.specs.Neighbours.{said_at, concerns, address_at, station_in}
 use Rattle.runs.specs.Runs.{OfOneStart, burst_drew}

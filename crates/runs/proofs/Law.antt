@@ -8,7 +8,7 @@ use Rattle.lines.specs.declared.Lines.{Lines}
 use Rattle.station.specs.Model.{Rules, Station, station_of}
 use Rattle.station.specs.declared.Record.{Record}
 use Rattle.station.specs.declared.StationLine.{StationLine}
-use Rattle.runs.specs.Calls.{Input, Output, reply, Exchange}
+use Rattle.runs.specs.Calls.{reply, Exchange}
 use Rattle.runs.specs.Feeding.{Event, Said, after, says, after_all, says_all}
 use Rattle.runs.specs.Neighbours.{for_slot, event_of, said_at, events, answers, NoOtherReply, address_at, station_in, Alike, Law}
 use Rattle.runs.specs.Runs.{Run, Step, OfOneStart}

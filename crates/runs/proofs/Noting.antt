@@ -1,5 +1,5 @@
 -- What came of a call is noted in the list, and the run is longer by that call. Assumes nothing.
-use Rattle.std.proofs.Common.{◌≡◌, ℕ, ◌+◌, ◌<◌, List, [], ◌∷◌, ◌++◌, map, length, get_or, take, set, sym, refl, ap, ◌∙◌, subst}
+use Rattle.std.proofs.Common.{◌≡◌, ℕ, ◌+◌, ◌<◌, List, [], ◌∷◌, ◌++◌, length, get_or, take, set, sym, refl, ap, ◌∙◌, subst}
 use Rattle.std.proofs.lemmas.List.{map-set, map_push, get_or-map, get_or_default, set-get_or, take_more_set}
 use Rattle.head.specs.Burst.{Cabinet}
 use Rattle.station.specs.Model.{Rules}

@@ -1,6 +1,6 @@
 -- The station in a slot, before and after a call. Assumes nothing.
-use Rattle.std.proofs.Common.{◌≡◌, ℕ, ◌<◌, Bool, true, false, cond, ◌&&◌, ◌||◌, eqb, List, Some, sym, refl, ap, ◌∙◌}
-use Rattle.std.proofs.lemmas.Bool.{cond-true, cond-false, or_parts}
+use Rattle.std.proofs.Common.{◌≡◌, ℕ, Bool, true, false, cond, eqb, List, Some, sym, refl, ap, ◌∙◌}
+use Rattle.std.proofs.lemmas.Bool.{cond-false, or_parts}
 use Rattle.address.specs.Addressing.{controller, reaches}
 use Rattle.board.specs.Meaning.{Share}
 use Rattle.head.specs.Burst.{Cabinet, Stayed}
@@ -12,7 +12,7 @@ use Rattle.station.specs.Model.{Rules, Station, station_of, answered, overheard}
 use Rattle.station.specs.declared.Record.{Record}
 use Rattle.telegram.specs.Layout.{Frame, part}
 use Rattle.runs.specs.Calls.{Input, Output, reply}
-use Rattle.runs.specs.Feeding.{Event, after, says}
+use Rattle.runs.specs.Feeding.{after, says}
 use Rattle.runs.specs.Neighbours.{for_slot, event_of, said_at, concerns, address_at, station_in}
 
 -- What a step does for the station in slot k: a call for it makes of it and draws from it what it would of the model station,

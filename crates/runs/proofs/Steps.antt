@@ -1,10 +1,10 @@
 -- Every call, for every station of the cabinet. Assumes nothing.
 use Rattle.std.proofs.Common.{◌≡◌, ℕ, ◌<◌, ◌≤◌, Bool, true, false, cond, ◌&&◌, eqb, ltb, leb, List, length, is_ok, Some, None, Ok, Err, Option, Result, sym, refl, ap, ◌∙◌, subst, inl, inr, arith}
-use Rattle.std.proofs.lemmas.Bool.{cond-true, cond-false, le-leb, lt-ltb, eq-eqb, ne_eqb, and_from, and_right, both_ways, cases_eq, cases_Bool}
+use Rattle.std.proofs.lemmas.Bool.{cond-true, cond-false, le-leb, lt-ltb, eq-eqb, ne_eqb, and_from, and_right, both_ways, cases_eq}
 use Rattle.board.specs.Meaning.{Share, Stored, kept, not_puttable, wrong_type}
 use Rattle.burst.specs.Telegram.{telegram_of}
 use Rattle.head.specs.Burst.{Bursting, Cabinet, Silent}
-use Rattle.head.specs.Calls.{put_by, share_by, listed, conditioned, with_code, ticked}
+use Rattle.head.specs.Calls.{put_by, share_by, listed, with_code, ticked}
 use Rattle.head.specs.State.{stations, record_at, settings_at}
 use Rattle.head.specs.declared.arrival.Answered.{Answered}
 use Rattle.head.specs.declared.BurstFault.{BurstFault}
@@ -15,11 +15,11 @@ use Rattle.head.specs.declared.PutFault.TheVariants.{NoStation, TooFewSlots}
 use Rattle.lines.specs.Making.{line_at}
 use Rattle.lines.specs.declared.Lines.{Lines}
 use Rattle.readings.specs.declared.outcome.Outcome.{Outcome}
-use Rattle.station.specs.Model.{Rules, Station, station_of, with_condition, with_share}
+use Rattle.station.specs.Model.{Rules, station_of, with_condition, with_share}
 use Rattle.station.specs.declared.Record.{Record}
 use Rattle.telegram.specs.Layout.{Frame}
-use Rattle.runs.specs.Calls.{Input, burst, put, condition, tick, Output, reply, done}
-use Rattle.runs.specs.Feeding.{Said, nothing, refused, a_put, a_condition, after, says, put_said}
+use Rattle.runs.specs.Calls.{Input, burst, put, condition, tick, Output, reply}
+use Rattle.runs.specs.Feeding.{nothing, refused, a_put, a_condition, after, put_said}
 use Rattle.runs.specs.Neighbours.{said_at, station_in}
 use Rattle.runs.specs.Runs.{Step, PutStep, ConditionStep, TickStep, OfOneStart, put_drew, condition_drew}
 use Rattle.runs.proofs.Bursts.{burst_stepped}

@@ -1,5 +1,5 @@
 -- What a replay does. Assumes nothing.
-use Rattle.std.specs.Prelude.{◌≡◌, ℕ, ◌-◌, ◌<◌, ◌≤◌, Bool, false, List, [], ◌∷◌, ◌++◌, map, length, drop, replicate, Ok, Err, Result}
+use Rattle.std.specs.Prelude.{◌≡◌, ℕ, ◌-◌, ◌<◌, Bool, false, List, [], ◌∷◌, ◌++◌, map, length, drop, replicate, Ok, Err, Result}
 use Rattle.head.specs.Burst.{Cabinet, Stayed}
 use Rattle.head.specs.State.{stations}
 use Rattle.station.specs.Model.{Rules}

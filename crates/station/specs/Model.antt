@@ -1,6 +1,6 @@
 -- THE MODEL STATION: what one station answers, and what becomes of it, from its own state and the board's rules alone.
 -- Neither the slot's number nor the place of its window in the memory occurs here. Assumes nothing.
-use Rattle.std.specs.Prelude.{◌≡◌, ℕ, ◌-◌, Bool, cond, ◌&&◌, ◌||◌, List, [], ◌∷◌, drop, ◌==◌}
+use Rattle.std.specs.Prelude.{◌≡◌, ℕ, Bool, cond, ◌&&◌, ◌||◌, List, [], ◌∷◌, drop, ◌==◌}
 use Rattle.board.specs.Meaning.{Share, Stored, Same, SameBut}
 use Rattle.readings.specs.Bytes.{little_endian, weighed}
 use Rattle.readings.specs.declared.outcome.Outcome.{Outcome}

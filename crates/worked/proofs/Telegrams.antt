@@ -1,6 +1,6 @@
 -- The worked cases on telegrams. Where none stands, one test is computed at every position.
 -- Assumes nothing.
-use Rattle.std.proofs.Common.{◌≡◌, ℕ, zero, suc, ◌+◌, ◌<◌, ◌≤◌, Bool, true, not, ◌&&◌, eqb, leb, List, [], ◌∷◌, length, refl, inl, inr, arith, lit≤}
+use Rattle.std.proofs.Common.{◌≡◌, ℕ, zero, suc, ◌+◌, ◌<◌, Bool, true, not, ◌&&◌, eqb, leb, List, ◌∷◌, length, refl, inl, inr, arith, lit≤}
 use Rattle.std.proofs.lemmas.List.{get_or_past}
 use Rattle.std.proofs.lemmas.Bool.{cases_lt, and_parts, and_from, eq-eqb, le-leb, both_ways, not-true}
 use Rattle.checksum.specs.Crc.{crc, updated, bits_in, bit_in, shifted}

@@ -1,4 +1,4 @@
-use Rattle.std.proofs.Common.{◌≡◌, ℕ, List, ◌++◌, get_or, take, ℤ, pos, vec_items, sym, ap, ◌∙◌, arith, w32, SFits, rules}
+use Rattle.std.proofs.Common.{ℕ, List, ◌++◌, get_or, take, ℤ, pos, vec_items, sym, ap, ◌∙◌, arith, w32, SFits, rules}
 use mir.Syntax.{w128}
 use Rattle.std.proofs.lemmas.List.{take_all, take_more}
 use Rattle.std.proofs.lemmas.Result.{IfOk-from_err}

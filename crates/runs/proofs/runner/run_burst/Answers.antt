@@ -1,9 +1,8 @@
-use Rattle.std.proofs.Common.{◌≡◌, ℕ, Bool, false, cond, List, ◌++◌, length, take, drop, Some, Ok, Option, sym, refl, ap, ◌∙◌, subst}
+use Rattle.std.proofs.Common.{◌≡◌, ℕ, Bool, false, cond, List, ◌++◌, length, take, drop, Some, Ok, Option, refl, ap, ◌∙◌, subst}
 use Rattle.head.specs.Burst.{Accepting, Bursting, Cabinet, has_replied}
 use Rattle.head.specs.declared.arrival.Answered.{Answered}
 use Rattle.station.specs.Model.{Rules}
 use Rattle.runs.specs.Calls.{reply}
-use Rattle.runs.specs.Replaying.{Scene}
 use Rattle.runs.proofs.Buffers.{over_front}
 use Rattle.runs.proofs.runner.run_burst.Goals as goal
 

@@ -1,4 +1,4 @@
-use Rattle.std.proofs.Common.{◌≡◌, ℕ, ◌+◌, ◌-◌, min, List, length, take, drop, sym, refl, ap, ◌∙◌, subst, arith, length-take}
+use Rattle.std.proofs.Common.{◌≡◌, ℕ, ◌-◌, min, List, length, take, sym, ap, ◌∙◌, subst, arith, length-take}
 use Rattle.head.specs.Burst.{Cabinet}
 use Rattle.station.specs.Model.{Rules}
 use Rattle.runs.specs.Calls.{Output, input_of, output_of}

@@ -1,4 +1,4 @@
-use Rattle.std.proofs.Common.{length, ap, arith, rules}
+use Rattle.std.proofs.Common.{length, ap, arith}
 use Rattle.head.proofs.Fresh.{all_fresh}
 use Rattle.head.proofs.state.Head.start.Goals as goal
 
