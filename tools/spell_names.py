@@ -16,8 +16,8 @@ import sys
 OUTER = ("length", "take", "sum", "weighed")
 INNER = ("append", "channels", "covered", "frame", "held", "latest", "little_endian", "parts", "turned", "window")
 JOINED = {f"{o}_{i}": f"{o}-{i}" for o in OUTER for i in INNER} | {"little_endian_weighed": "little_endian-weighed"}
-# A fact that would have the name of a variant of this repository.
-OTHER = {"No-soh": "HasNoSoh"}
+# Names that would fall together with another: a fact with a variant of this repository, a function with one of the kit's.
+OTHER = {"No-soh": "HasNoSoh", "fromBits": "value_with_bits", "from-bits": "value_with_bits"}
 # How a name begins that Rattle makes from the code.
 MADE = re.compile(
     r"(?:returns|overflow_\w+|overflow|bounds|slice_bounds|slice-bounds|nonzero_\w+|offset_bounds|invariant_of|invariant-of|invariant-loop"

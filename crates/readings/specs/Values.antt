@@ -39,8 +39,8 @@ abbrev pub Maker : Format → Type 0 → Type 0
 Maker f X = (v : Ieee) → T (not (is_nan v)) → T (fits f v) → X
 
 -- made of the float that has these bits, or nothing where they are a NaN's
-abbrev pub from_bits : (f : Format) {X : Type 0} → Maker f X → ℕ → Option X
-from_bits f make n = unless (is_nan (of_bits f n)) (λ number. make (of_bits f n) number (of_bits-fits f n))
+abbrev pub value_with_bits : (f : Format) {X : Type 0} → Maker f X → ℕ → Option X
+value_with_bits f make n = unless (is_nan (of_bits f n)) (λ number. make (of_bits f n) number (of_bits-fits f n))
 
 abbrev pub single : Maker binary32 Reading
 single v n h = V.F32 (record { value = v; number = n; held = h })
@@ -56,5 +56,5 @@ valued K.U16 z = Some (V.U16 (unsigned_abs z))
 valued K.I16 z = Some (V.I16 z)
 valued K.U32 z = Some (V.U32 (unsigned_abs z))
 valued K.I32 z = Some (V.I32 z)
-valued K.F32 z = from_bits binary32 single (unsigned_abs z)
-valued K.F64 z = from_bits binary64 double (unsigned_abs z)
+valued K.F32 z = value_with_bits binary32 single (unsigned_abs z)
+valued K.F64 z = value_with_bits binary64 double (unsigned_abs z)

@@ -1,6 +1,6 @@
 use Rattle.std.proofs.Common.{ap, ◌∙◌}
 use lib.Ieee.{binary32, binary64}
-use Rattle.readings.specs.Values.{from_bits, single, double}
+use Rattle.readings.specs.Values.{value_with_bits, single, double}
 use Rattle.readings.proofs.Floats.{made_from_own_bits}
 use Rattle.readings.proofs.reading.Reading.pattern.Goals as goal
 
@@ -11,7 +11,7 @@ returns-in-F32 c =
     simp c.in-F32.is (record {
       value = e;
       bound = c.to_bits.type_inv;
-      back = ap (from_bits binary32 single) e ∙ made_from_own_bits binary32 single x.value x.number x.held;
+      back = ap (value_with_bits binary32 single) e ∙ made_from_own_bits binary32 single x.value x.number x.held;
     })
 
 pub returns-in-F64 : goal.returns-in-F64
@@ -21,5 +21,5 @@ returns-in-F64 c =
     simp c.in-F64.is (record {
       value = e;
       bound = c.to_bits-in-F64.type_inv;
-      back = ap (from_bits binary64 double) e ∙ made_from_own_bits binary64 double x.value x.number x.held;
+      back = ap (value_with_bits binary64 double) e ∙ made_from_own_bits binary64 double x.value x.number x.held;
     })
