@@ -16,8 +16,8 @@ stands_fits s p t =
 fits_stands : (s : List ℕ) (p : ℕ) → fits s p ≡ true → Stands s p
 unfolding fits
 fits_stands s p h =
-    let a = and_parts _ _ h in
-    let b = and_parts _ _ a.0 in
+    let all = and_parts _ _ h in
+    let b = and_parts _ _ all.0 in
     let c = and_parts _ _ b.0 in
     let d = and_parts _ _ c.0 in
     let e = and_parts _ _ d.0 in
@@ -31,7 +31,7 @@ fits_stands s p h =
       stx = eqb-true _ _ d.1;
       etx = eqb-true _ _ c.1;
       eot = eqb-true _ _ b.1;
-      checked = eqb-true _ _ a.1;
+      checked = eqb-true _ _ all.1;
     }
 
 -- where none stands below q and one does at q, the search from p finds q
