@@ -1,12 +1,12 @@
 #!/usr/bin/env python3
 """Respells this repository's own definitions and lemmas as today's Rattle spells names.
 
-usage: python3 tools/spell_names.py            at the top of the repository, once, after the kit's port.py
+usage: python3 tools/spell_names.py [--list | --anyway]     at the top of the repository, once, after the kit's port.py
 
 Types and facts are in upper camel case, everything else in snake case; a dash stays where a lemma is named by two names.
-Only antt is respelled: files of specs/ and proofs/, and in files of src/ and must-fail/ the imports, the clauses and the
-ghost fields. Functions, strings, comments, inputs and outputs keep their names. Names that fall together are printed, and
-then nothing is written.
+Only antt is respelled: files of specs/ and proofs/, and in files of src/ the imports, the clauses, the ghost fields and the
+ghost members. Functions, strings, comments, edits, inputs and outputs keep their names. Names that fall together are
+printed, and then nothing is written but with --anyway. --list only prints what would be respelled.
 """
 import os
 import re
