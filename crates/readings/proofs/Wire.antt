@@ -1,5 +1,5 @@
 -- What the bytes of a value are read as, and what is written of them. Assumes nothing.
-use Rattle.std.proofs.Common.{◌≡◌, ℕ, ◌+◌, ◌^◌, ◌<◌, ◌≤◌, Bool, true, false, cond, eqb, List, [], ◌∷◌, length, get_or, take, Some, Ok, Err, Option, sym, refl, ap, ◌∙◌, subst, one-add, arith, lit≤, w8, Fits, eq-eqb, eqb-true}
+use Rattle.std.proofs.Common.{◌≡◌, ℕ, ◌+◌, ◌^◌, ◌<◌, ◌≤◌, Bool, true, false, cond, eqb, List, [], ◌∷◌, length, get_or, take, IfSome, None, Some, Ok, Err, Option, sym, refl, ap, ◌∙◌, subst, one-add, arith, lit≤, w8, Fits, eq-eqb, eqb-true}
 use Rattle.std.specs.Option.{ok_or}
 use Rattle.readings.specs.declared.kind.Kind.{Kind}
 use Rattle.readings.specs.declared.kind.Kind.TheVariants as K
@@ -65,18 +65,10 @@ front v code n bs c e w =
     subst P (sym w) (ap (λ (m : ℕ). take m (code ∷ little_endian 8 n)) (one-add (size_of k)) ∙ cc)
 
 -- what was read has the code and the bytes that it was read from
-pub read_back : (code : ℕ) (bytes : List ℕ) (k : Kind) (v : Reading) (n : ℕ) → Some k ≡ kind_at code → length bytes ≡ size_of k → n ≡ weighed bytes → Some v ≡ valued k (unpattern k n) → kind_of v ≡ k → pattern v ≡ n
-    → ((i : ℕ) → Fits w8 (get_or bytes i 0)) → (Ok v ≡ read_from code bytes) × Reads code bytes (Ok v)
-read_back code bytes k v n at len num made kind pat typed =
-    let test = eq-eqb (length bytes) (size_of k) len in
-    let own = coding_code kind_code kinds code k (sym at) in
-    let bs : bytes_of v ≡ bytes =
-    ap (λ (j : Kind). little_endian (size_of j) (pattern v)) kind ∙ ap (λ (m : ℕ). little_endian m (pattern v)) (sym len) ∙ ap (little_endian (length bytes)) (pat ∙ num) ∙ little_endian-weighed bytes typed in (
-      sym (
-          ap (λ (o : Option Kind). read_as o bytes) (sym at)
-          ∙ ap (λ (b : Bool). cond b (ok_or (valued k (unpattern k (weighed bytes))) NotANumber) (Err WrongLength)) test
-          ∙ ap (λ (m : ℕ). ok_or (valued k (unpattern k m)) NotANumber) (sym num)
-          ∙ ap (λ (o : Option Reading). ok_or o NotANumber) (sym made)
-          ),
-      (ap kind_code kind ∙ own, bs),
-    )
+pub read_back : (code : ℕ) (bytes : List ℕ) (k : Kind) (o : Option Reading) (n : ℕ) → kind_at code ≡ Some k → length bytes ≡ size_of k → n ≡ weighed bytes → IfSome o (λ v. (kind_of v ≡ k) × (pattern v ≡ n))
+    → ((i : ℕ) → Fits w8 (get_or bytes i 0)) → Reads code bytes (ok_or o NotANumber)
+read_back code bytes k None n at len num back typed = tt
+read_back code bytes k (Some v) n at len num (kind, pat) typed = (
+  ap kind_code kind ∙ coding_code kind_code kinds code k at,
+  ap (λ (j : Kind). little_endian (size_of j) (pattern v)) kind ∙ ap (λ (m : ℕ). little_endian m (pattern v)) (sym len) ∙ ap (little_endian (length bytes)) (pat ∙ num) ∙ little_endian-weighed bytes typed,
+)

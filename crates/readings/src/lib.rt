@@ -2,6 +2,7 @@
 // The specs give every type and fault its code, a value its bytes, and an outcome its whole numbers.
 #![tactic(auto)]
 
+pub mod code;
 pub mod fault;
 pub mod float32;
 pub mod float64;
@@ -10,6 +11,7 @@ pub mod outcome;
 pub mod reading;
 pub mod value;
 
+pub use code::UnknownCode;
 pub use fault::Fault;
 pub use float32::Float;
 pub use float64::Double;

@@ -39,7 +39,7 @@ impl Outcome {
     pub fn from_f32_bits(bits: u32) -> Outcome
         ensures { result ≡ measured F32 (pos bits) }
     {
-        Outcome::counted(Reading::from_pattern(Kind::F32, bits as u64))
+        Outcome::counted(Reading::from_pattern(Kind::F32, u64::from(bits)))
     }
 
     pub fn from_f64_bits(bits: u64) -> Outcome
@@ -52,10 +52,7 @@ impl Outcome {
     fn counted(value: Option<Reading>) -> Outcome
         ensures { result ≡ counted value }
     {
-        match value {
-            Some(value) => Outcome::Value(value),
-            None => Outcome::Fault(Fault::CalcError),
-        }
+        value.map_or(Outcome::Fault(Fault::CalcError), Outcome::Value)
     }
 
     // The code of the value's type, or of the fault: the first of the two whole numbers that the
@@ -65,8 +62,8 @@ impl Outcome {
         ensures back { (rest : List ℤ) → decoded (coded self ++ rest) ≡ self }
     {
         match self {
-            Outcome::Value(value) => value.kind().code(),
-            Outcome::Fault(fault) => fault.code(),
+            Outcome::Value(value) => u8::from(value.kind()),
+            Outcome::Fault(fault) => u8::from(fault),
         }
     }
 }

@@ -2,19 +2,43 @@ ghost use Rattle.std.specs.Prelude.{◌≡◌, ◌+◌, ◌^◌, ◌<◌, ◌≤
 ghost use Rattle.readings.specs.Bytes.{Reads, Writes, bytes_of, on_wire, pattern, read_from, unpattern, weighed};
 ghost use Rattle.readings.specs.Codes.{kind_code, size_of};
 ghost use Rattle.readings.specs.Values.{kind_of, valued};
+ghost use Rattle.readings.specs.declared.value.Unreadable.TheVariants.{UnknownType};
 
+use crate::code::UnknownCode;
 use crate::float32::Float;
 use crate::float64::Double;
 use crate::kind::Kind;
 use crate::reading::Reading;
+use std::error::Error;
+use std::fmt;
 
 // Why bytes are no value.
-#[derive(Clone, Copy)]
+#[derive(Clone, Copy, Debug, PartialEq, Eq)]
 pub enum Unreadable {
     UnknownType,
     WrongLength,
     NotANumber,
 }
+
+impl From<UnknownCode> for Unreadable {
+    ghost from_gives = { λ _ why. why ≡ UnknownType };
+
+    fn from(_: UnknownCode) -> Self {
+        Self::UnknownType
+    }
+}
+
+impl fmt::Display for Unreadable {
+    fn fmt<W: fmt::Write>(&self, f: &mut fmt::Formatter<W>) -> fmt::Result {
+        f.write_str(match self {
+            Unreadable::UnknownType => "no type has this code",
+            Unreadable::WrongLength => "a value of this type has another length",
+            Unreadable::NotANumber => "the float is not a number",
+        })
+    }
+}
+
+impl Error for Unreadable {}
 
 impl Reading {
     // The value's bits as one number, a signed one in two's complement.
@@ -24,13 +48,13 @@ impl Reading {
         ensures back { valued (kind_of self) (unpattern (kind_of self) result) ≡ Some self }
     {
         match self {
-            Reading::U8(n) => n as u64,
-            Reading::I8(z) => z.cast_unsigned() as u64,
-            Reading::U16(n) => n as u64,
-            Reading::I16(z) => z.cast_unsigned() as u64,
-            Reading::U32(n) => n as u64,
-            Reading::I32(z) => z.cast_unsigned() as u64,
-            Reading::F32(x) => x.to_bits() as u64,
+            Reading::U8(n) => u64::from(n),
+            Reading::I8(z) => u64::from(z.cast_unsigned()),
+            Reading::U16(n) => u64::from(n),
+            Reading::I16(z) => u64::from(z.cast_unsigned()),
+            Reading::U32(n) => u64::from(n),
+            Reading::I32(z) => u64::from(z.cast_unsigned()),
+            Reading::F32(x) => u64::from(x.to_bits()),
             Reading::F64(x) => x.to_bits(),
         }
     }
@@ -48,14 +72,8 @@ impl Reading {
             Kind::I16 => Some(Reading::I16((bits as u16).cast_signed())),
             Kind::U32 => Some(Reading::U32(bits as u32)),
             Kind::I32 => Some(Reading::I32((bits as u32).cast_signed())),
-            Kind::F32 => match Float::from_bits(bits as u32) {
-                Some(x) => Some(Reading::F32(x)),
-                None => None,
-            },
-            Kind::F64 => match Double::from_bits(bits) {
-                Some(x) => Some(Reading::F64(x)),
-                None => None,
-            },
+            Kind::F32 => Float::from_bits(bits as u32).map(Reading::F32),
+            Kind::F64 => Double::from_bits(bits).map(Reading::F64),
         }
     }
 
@@ -65,7 +83,7 @@ impl Reading {
         ensures len { length (on_wire self) ≡ 1 + size_of (kind_of self) }
         ensures back { read_from (kind_code (kind_of self)) (bytes_of self) ≡ Ok self }
     {
-        let code = self.kind().code();
+        let code = u8::from(self.kind());
         let [a, b, c, d, e, f, g, h] = self.pattern().to_le_bytes();
         [code, a, b, c, d, e, f, g, h]
     }
@@ -90,16 +108,11 @@ impl Reading {
         ensures value { result ≡ read_from code bytes.now }
         ensures back { Reads code bytes.now result }
     {
-        let Some(kind) = Kind::from_code(code) else {
-            return Err(Unreadable::UnknownType);
-        };
+        let kind = Kind::try_from(code)?;
         if bytes.len() != kind.size() {
             return Err(Unreadable::WrongLength);
         }
-        match Reading::from_pattern(kind, weigh(bytes)) {
-            Some(value) => Ok(value),
-            None => Err(Unreadable::NotANumber),
-        }
+        Reading::from_pattern(kind, weigh(bytes)).ok_or(Unreadable::NotANumber)
     }
 }
 

@@ -10,10 +10,10 @@ pub returns : goal.returns
 returns c =
     let v = c.args.self in
     let p = c.pattern.ensures in
-    let code : c.code-code.result ≡ kind_code (kind_of v) = c.code-code.ensures ∙ ap kind_code c.kind.ensures in
+    let code : c.from-code.result ≡ kind_code (kind_of v) = c.from-code.ensures ∙ ap kind_code c.kind.ensures in
     let len = length-little_endian (size_of (kind_of v)) (pattern v) in
     record {
-      front = front v c.code-code.result c.pattern.result c.to_le_bytes.result code p.value (c.to_le_bytes.ensures ∙ eight_bytes c.pattern.result);
+      front = front v c.from-code.result c.pattern.result c.to_le_bytes.result code p.value (c.to_le_bytes.ensures ∙ eight_bytes c.pattern.result);
       len = omega arith;
       back = read_own v c.pattern.result p.value p.bound p.back;
     }
