@@ -1,6 +1,6 @@
 ghost use Rattle.board.specs.Refusals.{refusal_number};
 
-use refusal::Refusal;
+use refusals::Refusal;
 use std::error::Error;
 use std::fmt;
 

@@ -1,7 +1,7 @@
 // Why a head does not start.
 ghost use Rattle.lines.specs.Making as making;
 
-use refusal::Refusal;
+use refusals::Refusal;
 use std::error::Error;
 use std::fmt;
 

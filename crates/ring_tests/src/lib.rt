@@ -4,7 +4,7 @@
 
 #[cfg(test)]
 mod tests {
-    use refusal::Refusal;
+    use refusals::Refusal;
     use ring::{Marks, Ring, RingRefusal};
     use std::test::Fail;
 
