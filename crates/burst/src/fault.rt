@@ -3,7 +3,7 @@ ghost use Rattle.std.specs.Prelude.{◌≡◌, Some};
 ghost use Rattle.burst.specs.Reading.{line_told, told};
 ghost use Rattle.burst.specs.declared.fault.ReadFault.TheVariants.{AtLine};
 
-use refusal::Refusal;
+use refusals::Refusal;
 use std::error::Error;
 use std::fmt;
 

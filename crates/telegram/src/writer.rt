@@ -6,7 +6,7 @@ ghost use Rattle.telegram.specs.Writing.{number, Refused, Written};
 
 use super::view::Fields;
 use checksum::crc;
-use refusal::Refusal;
+use refusals::Refusal;
 use std::error::Error;
 use std::fmt;
 
