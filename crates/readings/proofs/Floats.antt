@@ -1,8 +1,7 @@
 -- A float that is a number is what its own bits stand for, at either format. Assumes nothing.
-use Rattle.std.proofs.Common.{◌≡◌, ℕ, ◌*◌, ◌<◌, Bool, true, false, not, T, MatchOption, IfSome, None, Some, Option, sym, refl, ap, ◌∙◌, subst}
+use Rattle.std.proofs.Common.{◌≡◌, ℕ, ◌*◌, ◌<◌, Bool, true, false, not, T, Some, sym, refl, ap, ◌∙◌, subst}
 use lib.Ieee.{Format, fits, is_nan, of_bits, to_bits, top, Float as Ieee}
 use lib.Ieee.Bits.{of_bits-fits, of_bits-to_bits, to_bits-of_bits}
-use Rattle.std.specs.Option.{IsSomeAnd}
 use Rattle.readings.specs.Values.{Maker, value_with_bits, unless}
 
 T_prop : (b : Bool) (p q : T b) → p ≡ q
@@ -31,19 +30,3 @@ made_from_own_bits f make v n h = made_from_bits f make (to_bits f v) v n h (sym
 -- and its bits are those that it came from
 pub bits_back : (f : Format) (bits : ℕ) (v : Ieee) → bits < 2 * top f → T (not (is_nan v)) → v ≡ of_bits f bits → to_bits f v ≡ bits
 bits_back f bits v h n e = ap (to_bits f) e ∙ to_bits-of_bits f bits h (subst (λ (u : Ieee). T (not (is_nan u))) e n)
-
-unless_none : {X : Type 0} (b : Bool) (make : T (not b) → X) → T b → unless b make ≡ None
-unless_none true make h = refl
-unless_none false make h = absurd h
-
--- what is made of the float that there is when its bits are no NaN's, and what holds of all that is made of that float
-pub made_of_option : (f : Format) {W X : Type 0} (make : Maker f X) (value : W → Ieee) (number : (w : W) → T (not (is_nan (value w)))) (held : (w : W) → T (fits f (value w))) (P : X → Type 0) (bits : ℕ) (o : Option W) (r : Option X)
-    → MatchOption o (T (is_nan (of_bits f bits))) (λ w. value w ≡ of_bits f bits)
-    → MatchOption o (r ≡ None) (λ w. IsSomeAnd r (λ x. x ≡ make (value w) (number w) (held w)))
-    → ((w : W) → value w ≡ of_bits f bits → P (make (value w) (number w) (held w)))
-    → (r ≡ value_with_bits f make bits) × IfSome r P
-made_of_option f make value number held P bits None r nan none h =
-    (none ∙ sym (unless_none (is_nan (of_bits f bits)) (λ m. make (of_bits f bits) m (of_bits-fits f bits)) nan), subst (λ o. IfSome o P) (sym none) tt)
-made_of_option f make value number held P bits (Some w) None e none h = absurd none
-made_of_option f make value number held P bits (Some w) (Some x) e own h =
-    (ap Some own ∙ sym (made_from_bits f make bits (value w) (number w) (held w) e), subst P (sym own) (h w e))

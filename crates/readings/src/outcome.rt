@@ -1,10 +1,9 @@
-ghost use Rattle.std.specs.Float.{binary32, binary64};
 ghost use Rattle.std.specs.Prelude.{◌≡◌, List, ◌++◌, ℤ, pos};
 ghost use Rattle.readings.specs.Outcomes.{code_of, coded, counted, decoded, from_float, measured};
-ghost use Rattle.readings.specs.declared.kind.Kind.TheVariants.{F32, F64};
+ghost use Rattle.readings.specs.Codes.{kind_for};
 
 use crate::fault::Fault;
-use crate::kind::Kind;
+use crate::ieee::Ieee;
 use crate::reading::Reading;
 
 // What a channel shows: a value, or the fault for which it has none.
@@ -16,36 +15,20 @@ pub enum Outcome {
 }
 
 impl Outcome {
-    pub fn from_f32(x: f32) -> Outcome
-        ensures { result ≡ from_float binary32 x }
+    pub fn from_float<F: Ieee>(x: F) -> Outcome
+        ensures { result ≡ from_float F.format (F.float x) }
     {
         if x.is_nan() {
             Outcome::Fault(Fault::CalcError)
         } else {
-            Outcome::from_f32_bits(x.to_bits())
+            Outcome::from_float_bits::<F>(x.to_bits())
         }
     }
 
-    pub fn from_f64(x: f64) -> Outcome
-        ensures { result ≡ from_float binary64 x }
+    pub fn from_float_bits<F: Ieee>(bits: F::Bits) -> Outcome
+        ensures { result ≡ measured (kind_for F.format) (pos (F.number bits)) }
     {
-        if x.is_nan() {
-            Outcome::Fault(Fault::CalcError)
-        } else {
-            Outcome::from_f64_bits(x.to_bits())
-        }
-    }
-
-    pub fn from_f32_bits(bits: u32) -> Outcome
-        ensures { result ≡ measured F32 (pos bits) }
-    {
-        Outcome::counted(Reading::from_pattern(Kind::F32, u64::from(bits)))
-    }
-
-    pub fn from_f64_bits(bits: u64) -> Outcome
-        ensures { result ≡ measured F64 (pos bits) }
-    {
-        Outcome::counted(Reading::from_pattern(Kind::F64, bits))
+        Outcome::counted(Reading::from_pattern(F::KIND, F::widen(bits)))
     }
 
     // A value, or the fault that a NaN counts as.

@@ -5,9 +5,8 @@ ghost use Rattle.readings.specs.Values.{kind_of, valued};
 ghost use Rattle.readings.specs.declared.value.Unreadable.TheVariants.{UnknownType};
 
 use crate::code::UnknownCode;
-use crate::float32::Float;
-use crate::float64::Double;
 use crate::kind::Kind;
+use crate::not_nan::{Double, Float};
 use crate::reading::Reading;
 use std::error::Error;
 use std::fmt;
@@ -65,16 +64,16 @@ impl Reading {
         ensures value { result ≡ valued kind (unpattern kind bits) }
         ensures back { IfSome result (λ v. (kind_of v ≡ kind) × (pattern v ≡ bits)) }
     {
-        match kind {
-            Kind::U8 => Some(Reading::U8(bits as u8)),
-            Kind::I8 => Some(Reading::I8((bits as u8).cast_signed())),
-            Kind::U16 => Some(Reading::U16(bits as u16)),
-            Kind::I16 => Some(Reading::I16((bits as u16).cast_signed())),
-            Kind::U32 => Some(Reading::U32(bits as u32)),
-            Kind::I32 => Some(Reading::I32((bits as u32).cast_signed())),
-            Kind::F32 => Float::from_bits(bits as u32).map(Reading::F32),
-            Kind::F64 => Double::from_bits(bits).map(Reading::F64),
-        }
+        Some(match kind {
+            Kind::U8 => Reading::U8(bits as u8),
+            Kind::I8 => Reading::I8((bits as u8).cast_signed()),
+            Kind::U16 => Reading::U16(bits as u16),
+            Kind::I16 => Reading::I16((bits as u16).cast_signed()),
+            Kind::U32 => Reading::U32(bits as u32),
+            Kind::I32 => Reading::I32((bits as u32).cast_signed()),
+            Kind::F32 => Reading::F32(Float::from_bits(bits as u32)?),
+            Kind::F64 => Reading::F64(Double::from_bits(bits)?),
+        })
     }
 
     // The type's code and then the value's eight low bytes, more than those that count.
