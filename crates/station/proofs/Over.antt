@@ -7,8 +7,8 @@ use Rattle.telegram.specs.Layout.{at}
 use Rattle.station.specs.Model.{went_well}
 use Rattle.station.specs.Replies.{overwritten, lone, ok}
 
-pub put_over : (window bytes ys : List ℕ) (start k : ℕ) → ys ≡ bytes → k ≡ length bytes → put_mid start k window ys ≡ overwritten window start bytes
-put_over window bytes ys start k same count = rw (same, count, drop-drop (length bytes) start window)
+pub put_over : (window bytes ys : List ℕ) (at' start k : ℕ) → at' ≡ start → ys ≡ bytes → k ≡ length bytes → put_mid at' k window ys ≡ overwritten window start bytes
+put_over window bytes ys at' start k place same count = rw (place, same, count, drop-drop (length bytes) start window)
 
 -- after a reply of 00h it is the change that holds
 pub well : {A : Type 0} (reply : List ℕ) (x y : A) → reply ≡ lone ok → x ≡ cond (went_well reply) x y

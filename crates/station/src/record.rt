@@ -12,7 +12,7 @@ pub struct StationLine {
 }
 
 // What changes.
-#[derive(Clone, Copy)]
+#[derive(Clone, Copy, Debug, PartialEq, Eq)]
 pub struct Record {
     // Seconds.
     pub clock: u32,

@@ -1,0 +1,26 @@
+ghost use Rattle.std.specs.Prelude.{◌≡◌};
+ghost use Rattle.station.specs.Codes.{status_code};
+
+// The statuses that a station gives, by the names of the UMB manual's "Status and Error Codes". A fault of a channel gives
+// its own code, but that a channel which is switched off is told like these.
+#[derive(Clone, Copy, Debug, PartialEq, Eq)]
+pub(crate) enum Status {
+    Ok = 0x00,
+    UnknownCommand = 0x10,
+    InvalidParameter = 0x11,
+    InvalidHeader = 0x12,
+    InvalidCommandVersion = 0x13,
+    InvalidValue = 0x15,
+    WriteError = 0x21,
+    TooLong = 0x22,
+    InvalidAddress = 0x23,
+    ChannelOff = 0x36,
+}
+
+impl From<Status> for u8 {
+    ghost from_gives = { λ status code. code ≡ status_code status };
+
+    fn from(status: Status) -> u8 {
+        status as u8
+    }
+}
