@@ -1,7 +1,7 @@
 // What a station answers to a telegram that is addressed to it.
 ghost use Rattle.std.specs.Prelude.{◌≡◌, ℕ, ◌<◌, ◌≤◌, List, length, is_ok, if◌then◌else◌, MatchResult, nat_lt};
+ghost use Rattle.board.specs.Boards.{rules};
 ghost use Rattle.board.specs.Meaning.{SameBut};
-ghost use Rattle.payload.specs.Spelled.{spelled};
 ghost use Rattle.readings.specs.Bytes.{weighed, little_endian};
 ghost use Rattle.station.specs.Codes.{command_code};
 ghost use Rattle.station.specs.Model as model;
@@ -26,26 +26,26 @@ const VERSION: u8 = 0x10;
 // The reply to a command that takes no payload: 00h and these bytes.
 fn tell(answer: &[u8], payload: &[u8]) -> Payload
     requires { length answer.now ≤ 4 }
-    ensures { spelled result ≡ replies.told answer.now payload.now }
+    ensures { result ≡ replies.told answer.now payload.now }
 {
     if !payload.is_empty() {
         return alone(Status::InvalidParameter);
     }
     let mut reply = alone(Status::Ok);
-    let _ = reply.append(answer);
+    reply.append(answer).unwrap();
     reply
 }
 
 fn tell_time(clock: u32, payload: &[u8]) -> Payload
-    ensures { spelled result ≡ replies.told (little_endian 4 clock) payload.now }
+    ensures { result ≡ replies.told (little_endian 4 clock) payload.now }
 {
     tell(&clock.to_le_bytes(), payload)
 }
 
 // "Set Time / Date (27h)".
 fn set_time(clock: &mut u32, payload: &[u8]) -> Payload
-    ensures replied { spelled result ≡ replies.set_time payload.now }
-    ensures after { clock.new ≡ (if model.went_well (spelled result) then weighed payload.now else clock.old) }
+    ensures replied { result ≡ replies.set_time payload.now }
+    ensures after { clock.new ≡ (if model.went_well result then weighed payload.now else clock.old) }
 {
     let &[a, b, c, d] = payload else {
         return alone(Status::InvalidParameter);
@@ -58,8 +58,8 @@ fn set_time(clock: &mut u32, payload: &[u8]) -> Payload
 fn restart<B: Board>(board: &mut B, slot: usize, payload: &[u8]) -> Payload
     requires { slot < B.count board.old }
     ensures same { B.count board.new ≡ B.count board.old }
-    ensures replied { spelled result ≡ replies.restart payload.now }
-    ensures after { B.share board.new slot ≡ (if model.went_well (spelled result) then B.restarted (B.share board.old slot) else B.share board.old slot) }
+    ensures replied { result ≡ replies.restart payload.now }
+    ensures after { B.share board.new slot ≡ (if model.went_well result then B.restarted (B.share board.old slot) else B.share board.old slot) }
     ensures others { SameBut slot (B.share board.old) (B.share board.new) }
 {
     match payload {
@@ -84,7 +84,7 @@ fn obey<B: Board>(
 ) -> Payload
     requires { slot < B.count board.old }
     ensures same { B.count board.new ≡ B.count board.old }
-    ensures became { model.Became (model.command (record { tells = B.tells; stored = B.stored; restarted = B.restarted }) (model.station_of line state.old window.old (B.share board.old slot)) (command_code command) payload.now) (spelled result) (model.station_of line state.new window.new (B.share board.new slot)) slot (B.share board.old) (B.share board.new) }
+    ensures became { model.Became (model.command (rules B.Board) (model.station_of line state.old window.old (B.share board.old slot)) (command_code command) payload.now) result (model.station_of line state.new window.new (B.share board.new slot)) slot (B.share board.old) (B.share board.new) }
 {
     match command {
         Command::ReadOutEeprom => read_settings(window, payload),
@@ -110,7 +110,7 @@ fn judge<B: Board>(
 ) -> Payload
     requires { slot < B.count board.old }
     ensures same { B.count board.new ≡ B.count board.old }
-    ensures became { model.Became (model.judged (record { tells = B.tells; stored = B.stored; restarted = B.restarted }) (model.station_of line state.old window.old (B.share board.old slot)) (frame fields.now)) (spelled result) (model.station_of line state.new window.new (B.share board.new slot)) slot (B.share board.old) (B.share board.new) }
+    ensures became { model.Became (model.judged (rules B.Board) (model.station_of line state.old window.old (B.share board.old slot)) (frame fields.now)) result (model.station_of line state.new window.new (B.share board.new slot)) slot (B.share board.old) (B.share board.new) }
 {
     if fields.version != VERSION {
         return alone(Status::InvalidHeader);
@@ -136,7 +136,7 @@ pub fn respond<B: Board>(
 ) -> Result<Payload, NoSlot>
     ensures same { B.count board.new ≡ B.count board.old }
     ensures ok { is_ok result ≡ nat_lt slot (B.count board.old) }
-    ensures became { MatchResult result (λ p. model.Became (model.answered (record { tells = B.tells; stored = B.stored; restarted = B.restarted }) (model.station_of line state.old window.old (B.share board.old slot)) (frame fields.now)) (spelled p) (model.station_of line state.new window.new (B.share board.new slot)) slot (B.share board.old) (B.share board.new)) (λ _. Unchanged state.old state.new window.old window.new (B.share board.old) (B.share board.new)) }
+    ensures became { MatchResult result (λ p. model.Became (model.answered (rules B.Board) (model.station_of line state.old window.old (B.share board.old slot)) (frame fields.now)) p (model.station_of line state.new window.new (B.share board.new slot)) slot (B.share board.old) (B.share board.new)) (λ _. Unchanged state.old state.new window.old window.new (B.share board.old) (B.share board.new)) }
 {
     if slot >= board.slots() {
         return Err(NoSlot);
@@ -156,7 +156,7 @@ pub fn overhear<B: Board>(
     ensures same { B.count board.new ≡ B.count board.old }
     ensures ok { is_ok result ≡ nat_lt slot (B.count board.old) }
     ensures others { SameBut slot (B.share board.old) (B.share board.new) }
-    ensures after { (line : ALine) (settings : List ℕ) → model.station_of line state.new settings (B.share board.new slot) ≡ (if is_ok result then model.overheard (record { tells = B.tells; stored = B.stored; restarted = B.restarted }) (model.station_of line state.old settings (B.share board.old slot)) (frame fields.now) else model.station_of line state.old settings (B.share board.old slot)) }
+    ensures after { (line : ALine) (settings : List ℕ) → model.station_of line state.new settings (B.share board.new slot) ≡ (if is_ok result then model.overheard (rules B.Board) (model.station_of line state.old settings (B.share board.old slot)) (frame fields.now) else model.station_of line state.old settings (B.share board.old slot)) }
 {
     if slot >= board.slots() {
         return Err(NoSlot);

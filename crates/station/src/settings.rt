@@ -1,6 +1,5 @@
 // The station's window of the settings memory: commands 21h and 22h.
 ghost use Rattle.std.specs.Prelude.{◌≡◌, ◌+◌, ◌<◌, length, drop, if◌then◌else◌};
-ghost use Rattle.payload.specs.Spelled.{spelled};
 ghost use Rattle.station.specs.Model.{went_well};
 ghost use Rattle.station.specs.Replies.{settings_read, settings_write, overwritten};
 ghost use Rattle.telegram.specs.Layout.{word};
@@ -15,7 +14,7 @@ const LONGEST_WRITE: u8 = 64;
 
 // "Read Out EEPROM (21h)".
 pub(crate) fn read_settings(window: &[u8], payload: &[u8]) -> Payload
-    ensures { spelled result ≡ settings_read window.now payload.now }
+    ensures { result ≡ settings_read window.now payload.now }
 {
     let &[low, high, length] = payload else {
         return alone(Status::InvalidParameter);
@@ -31,16 +30,16 @@ pub(crate) fn read_settings(window: &[u8], payload: &[u8]) -> Payload
     if end > window.len() {
         return alone(Status::InvalidAddress);
     }
-    let mut reply = Payload::new();
-    let _ = reply.append(&[u8::from(Status::Ok), low, high, length]);
-    let _ = reply.append(&window[start..end]);
+    let mut reply = alone(Status::Ok);
+    reply.append(&[low, high, length]).unwrap();
+    reply.append(&window[start..end]).unwrap();
     reply
 }
 
 // "Program EEPROM (22h)".
 pub(crate) fn write_settings(window: &mut [u8], protected: usize, payload: &[u8]) -> Payload
-    ensures replied { spelled result ≡ settings_write window.old protected payload.now }
-    ensures after { window.new ≡ (if went_well (spelled result) then overwritten window.old (word payload.now 0) (drop 3 payload.now) else window.old) }
+    ensures replied { result ≡ settings_write window.old protected payload.now }
+    ensures after { window.new ≡ (if went_well result then overwritten window.old (word payload.now 0) (drop 3 payload.now) else window.old) }
 {
     let &[low, high, length, ref bytes @ ..] = payload else {
         return alone(Status::InvalidParameter);

@@ -1,6 +1,5 @@
 use Rattle.std.proofs.Common.{◌≡◌, ℕ, ◌+◌, ◌-◌, List, drop, length, ◌∙◌, arith}
 use Rattle.std.proofs.lemmas.List.{take_rest}
-use Rattle.payload.specs.Spelled.{spelled}
 use Rattle.telegram.specs.Layout.{word}
 use Rattle.station.specs.Replies.{overwritten}
 use Rattle.station.proofs.Over.{put_over, well}
@@ -13,4 +12,4 @@ returns-clause-after c =
     let bytes = take_rest p 3 in
     let start : c.from-start.result ≡ word p 0 = omega arith in
     put_over window (drop 3 p) c.copy_from_slice.new.self c.from-start.result (word p 0) _ start (c.copy_from_slice.ensures.after ∙ bytes) (rw bytes (omega arith))
-    ∙ well (spelled c.alone-2.result) (overwritten window (word p 0) (drop 3 p)) window c.alone-2.ensures
+    ∙ well c.alone-2.result (overwritten window (word p 0) (drop 3 p)) window c.alone-2.ensures
