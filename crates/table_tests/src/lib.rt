@@ -6,6 +6,7 @@
 mod tests {
     use board::{Board, PutRefusal};
     use readings::{Fault, Kind, Outcome, Reading};
+    use refusals::Refusal;
     use std::test::Fail;
     use table::{Record, Table};
 
@@ -37,21 +38,16 @@ mod tests {
     // The value, or the fault's code, which no value of these tests has.
     fn shown(outcome: Outcome) -> u16 {
         match outcome {
-            Outcome::Value(value) => match value {
-                Reading::U16(n) => n,
-                _ => 0,
-            },
-            Outcome::Fault(fault) => fault.code() as u16,
+            Outcome::Value(Reading::U16(n)) => n,
+            Outcome::Value(_) => 0,
+            Outcome::Fault(fault) => u16::from(u8::from(fault)),
         }
     }
 
     fn float_bits(outcome: Outcome) -> Option<u32> {
         match outcome {
-            Outcome::Value(value) => match value {
-                Reading::F32(x) => Some(x.to_bits()),
-                _ => None,
-            },
-            Outcome::Fault(_) => None,
+            Outcome::Value(Reading::F32(x)) => Some(x.to_bits()),
+            _ => None,
         }
     }
 
