@@ -62,7 +62,8 @@ impl Reading {
     pub(crate) fn from_pattern(kind: Kind, bits: u64) -> Option<Reading>
         requires { bits < 256 ^ size_of kind }
         ensures value { result ≡ valued kind (unpattern kind bits) }
-        ensures back { IfSome result (λ v. (kind_of v ≡ kind) × (pattern v ≡ bits)) }
+        ensures same_kind { IfSome result (λ v. kind_of v ≡ kind) }
+        ensures same_bits { IfSome result (λ v. pattern v ≡ bits) }
     {
         Some(match kind {
             Kind::U8 => Reading::U8(bits as u8),
@@ -76,29 +77,20 @@ impl Reading {
         })
     }
 
-    // The type's code and then the value's eight low bytes, more than those that count.
-    fn wire(self) -> [u8; 9]
-        ensures front { take (1 + size_of (kind_of self)) result ≡ on_wire self }
-        ensures len { length (on_wire self) ≡ 1 + size_of (kind_of self) }
-        ensures back { read_from (kind_code (kind_of self)) (bytes_of self) ≡ Ok self }
-    {
-        let code = u8::from(self.kind());
-        let [a, b, c, d, e, f, g, h] = self.pattern().to_le_bytes();
-        [code, a, b, c, d, e, f, g, h]
-    }
-
     // Writes the type's code and then the value's bytes to the front of the buffer, and tells how
     // many they are; None, and nothing written, if they do not fit.
     pub fn write(self, buffer: &mut [u8]) -> Option<usize>
         ensures written { Writes self buffer.old buffer.new result }
         ensures back { read_from (kind_code (kind_of self)) (bytes_of self) ≡ Ok self }
     {
-        let wire = self.wire();
-        let len = 1 + self.kind().size();
+        let kind = self.kind();
+        let bytes = self.pattern().to_le_bytes();
+        let len = 1 + kind.size();
         if buffer.len() < len {
             return None;
         }
-        buffer[0..len].copy_from_slice(&wire[0..len]);
+        buffer[0] = u8::from(kind);
+        buffer[1..len].copy_from_slice(&bytes[..kind.size()]);
         Some(len)
     }
 
@@ -122,6 +114,6 @@ fn weigh(bytes: &[u8]) -> u64
     ensures bound { result < 256 ^ length bytes.now }
 {
     let mut all = [0u8; 8];
-    all[0..bytes.len()].copy_from_slice(bytes);
+    all[..bytes.len()].copy_from_slice(bytes);
     u64::from_le_bytes(all)
 }

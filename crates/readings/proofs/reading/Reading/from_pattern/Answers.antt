@@ -11,7 +11,8 @@ returns-in_ok-from_bits-in-F32 c =
     let h : c.args.bits < 4294967296 = simp c.in-F32.is at c.requires in
     simp c.in-F32.is (record {
       value = sym (made_from_bits binary32 single c.args.bits x.value x.number x.held e);
-      back = (refl, bits_back binary32 c.args.bits x.value h x.number e);
+      same_kind = refl;
+      same_bits = bits_back binary32 c.args.bits x.value h x.number e;
     })
 
 pub returns-in_ok-from_bits-in-F64 : goal.returns-in_ok-from_bits-in-F64
@@ -21,5 +22,6 @@ returns-in_ok-from_bits-in-F64 c =
     let h : c.args.bits < 18446744073709551616 = simp c.in-F64.is at c.requires in
     simp c.in-F64.is (record {
       value = sym (made_from_bits binary64 double c.args.bits x.value x.number x.held e);
-      back = (refl, bits_back binary64 c.args.bits x.value h x.number e);
+      same_kind = refl;
+      same_bits = bits_back binary64 c.args.bits x.value h x.number e;
     })
