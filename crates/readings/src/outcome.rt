@@ -1,5 +1,5 @@
 ghost use Rattle.std.specs.Prelude.{◌≡◌, List, ◌++◌, ℤ, pos};
-ghost use Rattle.readings.specs.Outcomes.{code_of, coded, counted, decoded, from_float, measured};
+ghost use Rattle.readings.specs.Outcomes.{code_of, coded, decoded, from_float, measured};
 ghost use Rattle.readings.specs.Codes.{kind_for};
 
 use crate::fault::Fault;
@@ -15,6 +15,7 @@ pub enum Outcome {
 }
 
 impl Outcome {
+    // What a float brings: its value, or fault 56h if it is a NaN.
     pub fn from_float<F: Ieee>(x: F) -> Outcome
         ensures { result ≡ from_float F.format (F.float x) }
     {
@@ -25,16 +26,11 @@ impl Outcome {
         }
     }
 
+    // What the float with these bits brings.
     pub fn from_float_bits<F: Ieee>(bits: F::Bits) -> Outcome
         ensures { result ≡ measured (kind_for F.format) (pos (F.number bits)) }
     {
-        Outcome::counted(Reading::from_pattern(F::KIND, F::widen(bits)))
-    }
-
-    // A value, or the fault that a NaN counts as.
-    fn counted(value: Option<Reading>) -> Outcome
-        ensures { result ≡ counted value }
-    {
+        let value = Reading::from_pattern(F::KIND, F::widen(bits));
         value.map_or(Outcome::Fault(Fault::CalcError), Outcome::Value)
     }
 

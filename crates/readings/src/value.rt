@@ -1,5 +1,5 @@
-ghost use Rattle.std.specs.Prelude.{◌≡◌, ◌+◌, ◌^◌, ◌<◌, ◌≤◌, length, take, IfSome, Some, Ok};
-ghost use Rattle.readings.specs.Bytes.{Reads, Writes, bytes_of, on_wire, pattern, read_from, unpattern, weighed};
+ghost use Rattle.std.specs.Prelude.{◌≡◌, ◌^◌, ◌<◌, ◌≤◌, length, IfSome, Some, Ok};
+ghost use Rattle.readings.specs.Bytes.{Reads, Writes, bytes_of, pattern, read_from, unpattern, weighed};
 ghost use Rattle.readings.specs.Codes.{kind_code, size_of};
 ghost use Rattle.readings.specs.Values.{kind_of, valued};
 ghost use Rattle.readings.specs.declared.value.Unreadable.TheVariants.{UnknownType};
