@@ -85,6 +85,6 @@ impl Lines {
     {
         self.lines[..self.count]
             .iter()
-            .position(|line| line.address.0 == address.0)
+            .position(|line| line.address == address)
     }
 }

@@ -42,7 +42,7 @@ fn every_two<F: Fn(&Line, &Line) -> bool>(lines: &[Line], test: F) -> bool
 pub(crate) fn all_differ(lines: &[Line]) -> bool
     ensures { result ≡ rules.every_two rules.differ lines.now }
 {
-    every_two(lines, |one, other| one.address.0 != other.address.0)
+    every_two(lines, |one, other| one.address != other.address)
 }
 
 // Whether no two windows share a byte.
