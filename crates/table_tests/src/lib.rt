@@ -97,7 +97,7 @@ mod tests {
         let Ok(mut table) = Table::new(&mut records) else {
             return Err(Fail::new("refused"));
         };
-        let minus_zero = Outcome::from_f32_bits(0x8000_0000);
+        let minus_zero = Outcome::from_float_bits::<f32>(0x8000_0000);
         let put = table.put(0, 100, minus_zero);
         assert!(rt; putting(put) == 0);
         assert!(rt; float_bits(table.look(0, 100)) == Some(0x8000_0000));
