@@ -1,6 +1,7 @@
 // What a station answers.
 #![tactic(auto)]
 
+mod broadcast;
 mod command;
 mod no_slot;
 mod online;
@@ -9,6 +10,7 @@ mod responder;
 mod settings;
 mod status;
 
+pub use broadcast::overhear;
 pub use no_slot::NoSlot;
 pub use record::{Record, StationLine};
-pub use responder::{overhear, respond};
+pub use responder::respond;

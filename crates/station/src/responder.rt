@@ -1,27 +1,26 @@
 // What a station answers to a telegram that is addressed to it.
-ghost use Rattle.std.specs.Prelude.{◌≡◌, ℕ, ◌<◌, ◌≤◌, List, length, is_ok, if◌then◌else◌, MatchResult, nat_lt};
+ghost use Rattle.std.specs.Prelude.{◌≡◌, ◌<◌, ◌≤◌, length, is_ok, if◌then◌else◌, MatchResult, nat_lt};
 ghost use Rattle.board.specs.Boards.{rules};
 ghost use Rattle.board.specs.Meaning.{SameBut};
-ghost use Rattle.readings.specs.Bytes.{weighed, little_endian};
+ghost use Rattle.readings.specs.Bytes.{weighed};
 ghost use Rattle.station.specs.Codes.{command_code};
 ghost use Rattle.station.specs.Model as model;
 ghost use Rattle.station.specs.Model.{Unchanged};
 ghost use Rattle.station.specs.Replies as replies;
-ghost use Rattle.station.specs.declared.record.StationLine.{StationLine as ALine};
 ghost use Rattle.telegram.specs.View.{frame};
 
 use crate::command::Command;
 use crate::no_slot::NoSlot;
-use crate::online::{alone, many, one};
+use crate::online::{many, one};
 use crate::record::{Record, StationLine};
 use crate::settings::{read_settings, write_settings};
-use crate::status::Status;
+use crate::status::{Status, alone};
 use board::Board;
 use payload::Payload;
 use telegram::Fields;
 
 // The version of the protocol, and that of each command.
-const VERSION: u8 = 0x10;
+pub(crate) const VERSION: u8 = 0x10;
 
 // The reply to a command that takes no payload: 00h and these bytes.
 fn tell(answer: &[u8], payload: &[u8]) -> Payload
@@ -36,14 +35,8 @@ fn tell(answer: &[u8], payload: &[u8]) -> Payload
     reply
 }
 
-fn tell_time(clock: u32, payload: &[u8]) -> Payload
-    ensures { result ≡ replies.told (little_endian 4 clock) payload.now }
-{
-    tell(&clock.to_le_bytes(), payload)
-}
-
 // "Set Time / Date (27h)".
-fn set_time(clock: &mut u32, payload: &[u8]) -> Payload
+pub(crate) fn set_time(clock: &mut u32, payload: &[u8]) -> Payload
     ensures replied { result ≡ replies.set_time payload.now }
     ensures after { clock.new ≡ (if model.went_well result then weighed payload.now else clock.old) }
 {
@@ -55,7 +48,7 @@ fn set_time(clock: &mut u32, payload: &[u8]) -> Payload
 }
 
 // "Reset / Default (25h)": the share is restarted where the reply is 00h.
-fn restart<B: Board>(board: &mut B, slot: usize, payload: &[u8]) -> Payload
+pub(crate) fn restart<B: Board>(board: &mut B, slot: usize, payload: &[u8]) -> Payload
     requires { slot < B.count board.old }
     ensures same { B.count board.new ≡ B.count board.old }
     ensures replied { result ≡ replies.restart payload.now }
@@ -93,7 +86,7 @@ fn obey<B: Board>(
         Command::Reset => restart(board, slot, payload),
         Command::StatusRequest => tell(&[state.condition], payload),
         Command::SetTime => set_time(&mut state.clock, payload),
-        Command::ReadOutTime => tell_time(state.clock, payload),
+        Command::ReadOutTime => tell(&state.clock.to_le_bytes(), payload),
         Command::LastErrorMessage => tell(&[state.last], payload),
         Command::MultiChannelOnlineDataRequest => many(board, slot, payload),
     }
@@ -144,37 +137,4 @@ pub fn respond<B: Board>(
     let reply = judge(line, state, window, board, slot, fields);
     state.last = reply.status();
     Ok(reply)
-}
-
-// What a station does on a broadcast that reaches it. NoSlot, and nothing changes, where the board has no such slot.
-pub fn overhear<B: Board>(
-    state: &mut Record,
-    board: &mut B,
-    slot: usize,
-    fields: &Fields<'_>,
-) -> Result<(), NoSlot>
-    ensures same { B.count board.new ≡ B.count board.old }
-    ensures ok { is_ok result ≡ nat_lt slot (B.count board.old) }
-    ensures others { SameBut slot (B.share board.old) (B.share board.new) }
-    ensures after { (line : ALine) (settings : List ℕ) → model.station_of line state.new settings (B.share board.new slot) ≡ (if is_ok result then model.overheard (rules B.Board) (model.station_of line state.old settings (B.share board.old slot)) (frame fields.now) else model.station_of line state.old settings (B.share board.old slot)) }
-{
-    if slot >= board.slots() {
-        return Err(NoSlot);
-    }
-    if fields.version != VERSION || fields.command_version != VERSION {
-        return Ok(());
-    }
-    match Command::try_from(fields.command) {
-        Ok(Command::Reset) => {
-            let reply = restart(board, slot, fields.payload);
-            if reply.status() == u8::from(Status::Ok) {
-                state.last = reply.status();
-            }
-        }
-        Ok(Command::SetTime) => {
-            let _ = set_time(&mut state.clock, fields.payload);
-        }
-        _ => {}
-    }
-    Ok(())
 }

@@ -4,8 +4,7 @@ ghost use Rattle.station.specs.Model.{went_well};
 ghost use Rattle.station.specs.Replies.{settings_read, settings_write, overwritten};
 ghost use Rattle.telegram.specs.Layout.{word};
 
-use crate::online::{alone, limited};
-use crate::status::Status;
+use crate::status::{Status, alone, limited};
 use payload::Payload;
 
 const LONGEST_READ: u8 = 200;

@@ -1,5 +1,8 @@
 ghost use Rattle.std.specs.Prelude.{◌≡◌};
 ghost use Rattle.station.specs.Codes.{status_code};
+ghost use Rattle.station.specs.Replies.{lone, too_long};
+
+use payload::Payload;
 
 // The statuses that a station gives, by the names of the UMB manual's "Status and Error Codes". A fault of a channel gives
 // its own code, but that a channel which is switched off is told like these.
@@ -23,4 +26,18 @@ impl From<Status> for u8 {
     fn from(status: Status) -> u8 {
         status as u8
     }
+}
+
+// A reply that is a status alone.
+pub(crate) fn alone(status: Status) -> Payload
+    ensures { result ≡ lone (status_code status) }
+{
+    Payload::from_slice(&[u8::from(status)]).unwrap()
+}
+
+// A reply that what was asked is too long, with the greatest length or number that would be taken.
+pub(crate) fn limited(limit: u8) -> Payload
+    ensures { result ≡ too_long limit }
+{
+    Payload::from_slice(&[u8::from(Status::TooLong), limit]).unwrap()
 }
