@@ -49,11 +49,13 @@ impl Refusal for WriteRefusal {
     }
 }
 
-const LONGEST_TELEGRAM: usize = 224;
+// SOH to EOT, of a payload of 210 bytes.
+pub const LONGEST_TELEGRAM: usize = 224;
 
 const LONGEST_PAYLOAD: usize = 210;
 
 // The bytes that the checksum covers, SOH to ETX.
+#[tactic(auto, using(crate::proofs::Frames::laid))]
 fn write_covered(fields: &Fields<'_>, buffer: &mut [u8])
     requires payload { length fields.now.payload.now ≤ 210 }
     requires buffer { 224 ≤ length buffer.old }
