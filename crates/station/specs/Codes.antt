@@ -31,6 +31,6 @@ command_code C.ReadOutTime = 0x28
 command_code C.LastErrorMessage = 0x2C
 command_code C.MultiChannelOnlineDataRequest = 0x2F
 
--- the result is the command that has this code, or an error that says that none has
+-- the result is the command that has this code, or none has it
 abbrev pub Decodes : ℕ → Result Command UnknownCommand → Type 0
-Decodes code r = MatchResult r (λ c. (command_code c ≡ code) × (known code ≡ true)) (λ e. (e.0 ≡ code) × (known code ≡ false))
+Decodes code r = MatchResult r (λ c. (command_code c ≡ code) × (known code ≡ true)) (λ e. known code ≡ false)

@@ -1,10 +1,7 @@
 ghost use Rattle.station.specs.Codes.{Decodes};
 
-use std::error::Error;
-use std::fmt;
-
 // The commands that a station knows, by the names of the UMB manual.
-#[derive(Clone, Copy, Debug, PartialEq, Eq)]
+#[derive(Clone, Copy)]
 pub(crate) enum Command {
     ReadOutEeprom = 0x21,
     ProgramEeprom = 0x22,
@@ -17,9 +14,9 @@ pub(crate) enum Command {
     MultiChannelOnlineDataRequest = 0x2f,
 }
 
-// A byte that names no command.
-#[derive(Clone, Copy, Debug, PartialEq, Eq)]
-pub(crate) struct UnknownCommand(pub(crate) u8);
+// No command has this code.
+#[derive(Clone, Copy)]
+pub(crate) struct UnknownCommand;
 
 impl TryFrom<u8> for Command {
     type Error = UnknownCommand;
@@ -37,15 +34,7 @@ impl TryFrom<u8> for Command {
             0x28 => Ok(Command::ReadOutTime),
             0x2c => Ok(Command::LastErrorMessage),
             0x2f => Ok(Command::MultiChannelOnlineDataRequest),
-            _ => Err(UnknownCommand(code)),
+            _ => Err(UnknownCommand),
         }
     }
 }
-
-impl fmt::Display for UnknownCommand {
-    fn fmt<W: fmt::Write>(&self, f: &mut fmt::Formatter<W>) -> fmt::Result {
-        write!(f, "no command has code {}", self.0)
-    }
-}
-
-impl Error for UnknownCommand {}

@@ -6,7 +6,7 @@ use payload::Payload;
 
 // The statuses that a station gives, by the names of the UMB manual's "Status and Error Codes". A fault of a channel gives
 // its own code, but that a channel which is switched off is told like these.
-#[derive(Clone, Copy, Debug, PartialEq, Eq)]
+#[derive(Clone, Copy)]
 pub(crate) enum Status {
     Ok = 0x00,
     UnknownCommand = 0x10,
