@@ -1,6 +1,7 @@
 // A list of calls, each of which finds what the earlier ones left.
 ghost use Rattle.std.specs.Prelude.{◌≡◌, ◌≤◌, length, take, Some};
 ghost use Rattle.board.specs.Boards.{rules};
+ghost use Rattle.head.specs.Burst.{cabinet};
 ghost use Rattle.runs.specs.Calls.{input_of, output_of};
 ghost use Rattle.runs.specs.Replaying.{Leaving, Replaying, left_by, number};
 ghost use Rattle.runs.specs.Runs.{Step};
@@ -72,7 +73,7 @@ impl Call<'_> {
         buffer: &mut [u8],
     ) -> Result<Drawn, CallFault>
         ensures same { B.count board.new ≡ B.count board.old }
-        ensures step { Step (rules B.Board) (B.count board.old) (record { head = head.old; memory = memory.old; shares = B.share board.old }) (input_of (length buffer.old) self.entry) (output_of (Some result)) (record { head = head.new; memory = memory.new; shares = B.share board.new }) }
+        ensures step { Step (rules B.Board) (B.count board.old) (cabinet head.old memory.old (B.share board.old)) (input_of (length buffer.old) self.entry) (output_of (Some result)) (cabinet head.new memory.new (B.share board.new)) }
         ensures scene { (record { buffer = buffer.new; talking = line.new.talking }) ≡ left_by (record { buffer = buffer.old; talking = line.old.talking }) (output_of (Some result)) }
     {
         match self {
@@ -115,7 +116,7 @@ pub fn replay<B: Board>(
     list: &mut [Entry<'_>],
 ) -> Result<(), ReplayRefusal>
     ensures same { B.count board.new ≡ B.count board.old }
-    ensures replayed { Replaying (rules B.Board) (B.count board.old) (record { head = head.old; memory = memory.old; shares = B.share board.old }) (record { head = head.new; memory = memory.new; shares = B.share board.new }) (length buffer.old) list.old list.new result }
+    ensures replayed { Replaying (rules B.Board) (B.count board.old) (cabinet head.old memory.old (B.share board.old)) (cabinet head.new memory.new (B.share board.new)) (length buffer.old) list.old list.new result }
     ensures scene { Leaving (length buffer.old) list.new (record { buffer = buffer.old; talking = line.old.talking }) (record { buffer = buffer.new; talking = line.new.talking }) result }
 {
     if memory.len() != head.memory() {

@@ -1,6 +1,7 @@
 use Rattle.std.proofs.Common.{◌≡◌, ℕ, List, length, take, Some, ◌∙◌, arith}
 use Rattle.std.proofs.lemmas.List.{take_all}
 use Rattle.board.specs.Boards.{rules}
+use Rattle.head.specs.Burst.{cabinet}
 use Rattle.runs.specs.Runs.{OfOneStart}
 use Rattle.runs.specs.declared.call.Entry.{Entry}
 use Rattle.runs.proofs.Law.{run_obeys}
@@ -26,5 +27,5 @@ pub returns-clause-replayed : goal.returns-clause-replayed
 returns-clause-replayed g c =
     let all : take c.loop-entry.entry-index c.loop-entry.list ≡ c.loop-entry.list = take_all c.loop-entry.entry-index c.loop-entry.list (omega arith) in
     let run = rw all at c.loop-entry.invariant.run in
-    let started : OfOneStart (record { head = c.args.head.now; memory = c.args.memory.now; shares = g.B.Board.share c.args.board.now }) (g.B.Board.count c.args.board.now) = record { memory = omega (arith, c.memory.ensures); enough = omega (arith, c.slots.ensures, c.count.ensures) } in
+    let started : OfOneStart (cabinet c.args.head.now c.args.memory.now (g.B.Board.share c.args.board.now)) (g.B.Board.count c.args.board.now) = record { memory = omega (arith, c.memory.ensures); enough = omega (arith, c.slots.ensures, c.count.ensures) } in
     record { started = started; same = c.loop-entry.invariant.same; run = run; law = run_obeys _ _ _ _ _ started run }

@@ -1,5 +1,6 @@
 use Rattle.std.proofs.Common.{◌≡◌, length, take}
 use Rattle.board.specs.Boards.{rules}
+use Rattle.head.specs.Burst.{cabinet}
 use Rattle.runs.specs.Calls.{exchanges}
 use Rattle.runs.specs.Replaying.{calls, left}
 use Rattle.runs.specs.Runs.{Run}
@@ -10,6 +11,6 @@ invariant-loop-entry g l =
     record {
       count : g.B.Board.count l.board ≡ g.B.Board.count l.initial.board;
       same : calls l.list ≡ calls l.initial.list;
-      run : Run (rules g.B.Board) (g.B.Board.count l.initial.board) (record { head = l.initial.head; memory = l.initial.memory; shares = g.B.Board.share l.initial.board }) (exchanges (length l.initial.buffer) (take l.entry-index l.list)) (record { head = l.head; memory = l.memory; shares = g.B.Board.share l.board });
+      run : Run (rules g.B.Board) (g.B.Board.count l.initial.board) (cabinet l.initial.head l.initial.memory (g.B.Board.share l.initial.board)) (exchanges (length l.initial.buffer) (take l.entry-index l.list)) (cabinet l.head l.memory (g.B.Board.share l.board));
       scene : record { buffer = l.buffer; talking = l.line.talking } ≡ left (record { buffer = l.initial.buffer; talking = l.initial.line.talking }) (exchanges (length l.initial.buffer) (take l.entry-index l.list));
     }
