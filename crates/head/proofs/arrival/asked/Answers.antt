@@ -1,4 +1,4 @@
-use Rattle.std.proofs.Common.{rules, Ok}
+use Rattle.std.proofs.Common.{rules}
 use Rattle.std.proofs.lemmas.Result.{MatchResult-at_ok}
 use Rattle.head.proofs.Replies.{asked_is}
 use Rattle.head.proofs.arrival.asked.Goals as goal
