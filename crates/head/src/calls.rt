@@ -1,7 +1,7 @@
 // The calls besides a burst: put, condition and tick.
-ghost use Rattle.std.specs.Prelude.{◌≡◌, ℕ, ◌<◌, ◌&&◌, is_ok, if◌then◌else◌, ◌==◌, nat_lt};
+ghost use Rattle.std.specs.Prelude.{◌≡◌};
 ghost use Rattle.head.specs.Calls.{Conditioning, Putting, Ticking, listed};
-ghost use Rattle.head.specs.State.{stations, record_at};
+ghost use Rattle.head.specs.State.{stations};
 
 use crate::refusal::{ConditionFault, PutFault};
 use crate::state::Head;
