@@ -8,9 +8,10 @@ use board::Board;
 use head::{Head, LineRecord};
 use readings::{Outcome, Reading};
 use refusals::Refusal;
-use runs::{Call, Entry, replay};
+use runs::{Entry, replay};
 use shares::Shares;
 use statistics::{MOST_SAMPLES, MOST_SLOTS, Statistics};
+use std::alloc::{AllocError, Global};
 use table::{Record, Table};
 
 // The channel by which a statistics board takes a sample.
@@ -26,15 +27,19 @@ struct Session<B> {
     buffer: Vec<u8>,
 }
 
+// The calls of some steps, none of them made yet.
+fn entries<'a>(heap: Global, steps: &'a [Step]) -> Result<Vec<Entry<'a>>, AllocError> {
+    steps
+        .iter()
+        .filter_map(|step| step.deed.call())
+        .map(|call| Entry { call, told: None })
+        .collect(heap)
+}
+
 impl<B: Shares> Session<B> {
     // Makes the calls of some steps and tells what came of each. Only the last step may be a show.
     fn make(&mut self, rt: &HostRuntime, steps: &[Step]) -> anyhow::Result<()> {
-        let mut entries = Vec::new(rt.alloc());
-        for step in steps {
-            if let Some(call) = step.deed.call() {
-                entries.push(Entry { call, told: None })?;
-            }
-        }
+        let mut entries = entries(rt.alloc(), steps)?;
         let ran = replay(
             &mut self.head,
             &mut self.board,
@@ -86,10 +91,12 @@ impl<B: Shares> Session<B> {
     fn run(&mut self, rt: &HostRuntime, steps: &[Step]) -> anyhow::Result<()> {
         for stretch in steps.split_inclusive(|step| matches!(step.deed, Deed::Show(_))) {
             self.make(rt, stretch)?;
-            if let Some(Step {
-                line,
-                deed: Deed::Show(slot),
-            }) = stretch.last()
+            if let Some(
+                Step {
+                    line,
+                    deed: Deed::Show(slot),
+                },
+            ) = stretch.last()
             {
                 self.show(rt, *line, *slot)?;
             }

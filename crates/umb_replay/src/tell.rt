@@ -58,10 +58,7 @@ impl fmt::Display for Answer<'_> {
         let count = Count(bytes.len(), "byte");
         let hex = Hex(bytes);
         let meaning = Meaning(bytes);
-        write!(
-            f,
-            "reply of slot {slot}, {count}\n {hex}\n  {meaning}"
-        )
+        write!(f, "reply of slot {slot}, {count}\n {hex}\n  {meaning}")
     }
 }
 
