@@ -5,7 +5,7 @@ ghost use Rattle.std.specs.Prelude.{◌≡◌};
 ghost use Rattle.address.specs.Addressing.{class, reserve, id, of_station_class, station, controller, broadcast_to_all, broadcast_to_class, reaches, HasRole};
 
 // What an address is used for.
-#[derive(Clone, Copy)]
+#[derive(Clone, Copy, Debug, PartialEq, Eq)]
 pub enum Role {
     OfStation,
     OfController,
@@ -15,7 +15,7 @@ pub enum Role {
 }
 
 // An address of 16 bits, of a device or of nobody: any number may come over the line.
-#[derive(Clone, Copy)]
+#[derive(Clone, Copy, Debug, PartialEq, Eq)]
 pub struct Address(pub u16);
 
 impl Address {
@@ -40,7 +40,7 @@ impl Address {
     fn has_station_class(self) -> bool
         ensures { result ≡ of_station_class self.0 }
     {
-        1 <= self.class() && self.class() <= 14
+        (1..=14).contains(&self.class())
     }
 
     pub fn is_station(self) -> bool

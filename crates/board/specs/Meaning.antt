@@ -16,6 +16,12 @@ pub data Stored : Type 0 where
   not_puttable : Stored
   wrong_type : Stored
 
+-- what a board's make knows: its three rules
+pub record Rules : Type 0 where
+  pub tells : Share → ℕ → Outcome
+  pub stored : Share → ℕ → Outcome → Stored
+  pub restarted : Share → Share
+
 abbrev pub Refuses : Stored → Type 0
 Refuses (kept s) = ⊥
 Refuses not_puttable = Unit {0}

@@ -36,7 +36,8 @@ pub trait Board {
     // Stores an outcome on a slot's channel by the rule. Every other share stays, and all of them
     // if the put is refused; beyond the slots it is refused. The rule refuses fault 24h, which says
     // that there is no such channel, for every share and channel. (This is a clause and no law of
-    // the trait, since the toolchain proves no law for a board over lent memory.)
+    // the trait, since each board would have to write out the proof of a law, and the check looks
+    // for that of a clause by itself.)
     fn put(&mut self, slot: usize, channel: u16, outcome: Outcome) -> Result<(), PutRefusal>
         ensures same { count self.new ≡ count self.old }
         ensures after { Put stored (count self.old) (share self.old) (share self.new) slot channel outcome result }

@@ -1,8 +1,11 @@
-ghost use Rattle.std.specs.Prelude.{◌≡◌};
 ghost use Rattle.board.specs.Refusals.{refusal_number};
 
+use refusals::Refusal;
+use std::error::Error;
+use std::fmt;
+
 // Why a put is turned down.
-#[derive(Clone, Copy)]
+#[derive(Clone, Copy, Debug, PartialEq, Eq)]
 pub enum PutRefusal {
     // The board has no such slot.
     NoSlot,
@@ -12,10 +15,10 @@ pub enum PutRefusal {
     WrongType,
 }
 
-impl PutRefusal {
-    pub fn number(self) -> u8
-        ensures { result ≡ refusal_number self }
-    {
+impl Refusal for PutRefusal {
+    ghost number = { refusal_number };
+
+    fn number(&self) -> u8 {
         match self {
             PutRefusal::NoSlot => 20,
             PutRefusal::NotPuttable => 21,
@@ -23,3 +26,20 @@ impl PutRefusal {
         }
     }
 }
+
+impl fmt::Display for PutRefusal {
+    fn fmt<W: fmt::Write>(&self, f: &mut fmt::Formatter<W>) -> fmt::Result {
+        match self {
+            PutRefusal::NoSlot => write!(f, "the board has no such slot"),
+            PutRefusal::NotPuttable => write!(f, "the channel takes no put"),
+            PutRefusal::WrongType => {
+                write!(
+                    f,
+                    "not of the channel's type, or a fault that the board does not store"
+                )
+            }
+        }
+    }
+}
+
+impl Error for PutRefusal {}

@@ -1,3 +1,4 @@
 pub mod Reading
 pub mod Relay
+pub mod Showing
 pub mod Telegram

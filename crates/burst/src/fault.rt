@@ -3,23 +3,37 @@ ghost use Rattle.std.specs.Prelude.{◌≡◌, Some};
 ghost use Rattle.burst.specs.Reading.{line_told, told};
 ghost use Rattle.burst.specs.declared.fault.ReadFault.TheVariants.{AtLine};
 
+use refusals::Refusal;
+use std::error::Error;
+use std::fmt;
+
 // The layer of the protocol at which a fault is found.
-#[derive(Clone, Copy)]
+#[derive(Clone, Copy, Debug, PartialEq, Eq)]
 pub enum Layer {
     Line,
     Telegram,
     Answer,
 }
 
+impl fmt::Display for Layer {
+    fn fmt<W: fmt::Write>(&self, f: &mut fmt::Formatter<W>) -> fmt::Result {
+        match self {
+            Layer::Line => write!(f, "line"),
+            Layer::Telegram => write!(f, "telegram"),
+            Layer::Answer => write!(f, "answer"),
+        }
+    }
+}
+
 // Where in the burst a fault lies.
-#[derive(Clone, Copy)]
+#[derive(Clone, Copy, Debug, PartialEq, Eq)]
 pub struct Place {
     pub layer: Layer,
     pub position: usize,
 }
 
 // Why no telegram stands in a burst, told of its first SOH.
-#[derive(Clone, Copy)]
+#[derive(Clone, Copy, Debug, PartialEq, Eq)]
 pub enum LineFault {
     NoSoh { end: usize },
     EndsBeforeLen { end: usize },
@@ -31,8 +45,31 @@ pub enum LineFault {
     WrongChecksum { position: usize },
 }
 
+impl fmt::Display for LineFault {
+    fn fmt<W: fmt::Write>(&self, f: &mut fmt::Formatter<W>) -> fmt::Result {
+        match self {
+            LineFault::NoSoh { .. } => write!(f, "no SOH (01h) stands in it"),
+            LineFault::EndsBeforeLen { .. } => write!(
+                f,
+                "it ends before the len of the telegram that its first SOH begins"
+            ),
+            LineFault::LenOutOfRange { .. } => write!(f, "len is not 2 to 212"),
+            LineFault::EndsTooEarly { .. } => write!(
+                f,
+                "it ends before the telegram that its first SOH begins"
+            ),
+            LineFault::WrongStx { .. } => write!(f, "no STX (02h) where it should stand"),
+            LineFault::WrongEtx { .. } => write!(f, "no ETX (03h) where it should stand"),
+            LineFault::WrongEot { .. } => write!(f, "no EOT (04h) where it should stand"),
+            LineFault::WrongChecksum { .. } => write!(f, "the checksum does not fit"),
+        }
+    }
+}
+
+impl Error for LineFault {}
+
 // Why a burst could not be read.
-#[derive(Clone, Copy)]
+#[derive(Clone, Copy, Debug, PartialEq, Eq)]
 pub enum ReadFault {
     // It has more than 512 bytes.
     TooLong,
@@ -47,10 +84,21 @@ impl From<LineFault> for ReadFault {
     }
 }
 
-impl LineFault {
-    pub fn number(self) -> u8
-        ensures { result ≡ (line_told self).number }
-    {
+impl fmt::Display for ReadFault {
+    fn fmt<W: fmt::Write>(&self, f: &mut fmt::Formatter<W>) -> fmt::Result {
+        match self {
+            ReadFault::TooLong => write!(f, "the burst has more than 512 bytes"),
+            ReadFault::AtLine(fault) => write!(f, "{fault}"),
+        }
+    }
+}
+
+impl Error for ReadFault {}
+
+impl Refusal for LineFault {
+    ghost number = { λ fault. (line_told fault).number };
+
+    fn number(&self) -> u8 {
         match self {
             LineFault::NoSoh { .. } => 60,
             LineFault::LenOutOfRange { .. } => 61,
@@ -60,7 +108,9 @@ impl LineFault {
             LineFault::WrongChecksum { .. } => 64,
         }
     }
+}
 
+impl LineFault {
     pub fn place(self) -> Place
         ensures { (line_told self).place ≡ Some result }
     {
@@ -81,16 +131,18 @@ impl LineFault {
     }
 }
 
-impl ReadFault {
-    pub fn number(self) -> u8
-        ensures { result ≡ (told self).number }
-    {
+impl Refusal for ReadFault {
+    ghost number = { λ fault. (told fault).number };
+
+    fn number(&self) -> u8 {
         match self {
             ReadFault::TooLong => 10,
             ReadFault::AtLine(fault) => fault.number(),
         }
     }
+}
 
+impl ReadFault {
     // None where only the number is told.
     pub fn place(self) -> Option<Place>
         ensures { result ≡ (told self).place }

@@ -1,118 +1,123 @@
 // The telegram of a burst, or what is wrong with the burst.
-ghost use Rattle.std.specs.Prelude.{◌≡◌, ℕ, ◌+◌, ◌<◌, ◌≤◌, length, MatchOption, MatchResult};
-ghost use Rattle.telegram.specs.Layout.{at, len, Stands, First, NoneStands, NoneBetween};
-ghost use Rattle.burst.specs.Reading.{Failed, FirstSoh, HasNoSoh, Faulty, IsShort, Unread};
-ghost use Rattle.telegram.specs.View.{Views};
+ghost use Rattle.std.specs.Prelude.{◌≡◌, ◌<◌, length, OnOk, OnErr, IfOk, IfErr, MatchOption, MatchResult};
+ghost use Rattle.telegram.specs.Layout.{at, len, Stands, NoneStands, NoneBetween};
+ghost use Rattle.burst.specs.Reading.{Failed, FirstSoh, HasNoSoh, IsShort, Unread};
+ghost use Rattle.burst.specs.Showing.{ShowsFirst, ShowsFirstFrom};
 ghost use Rattle.burst.specs.declared.fault.ReadFault.TheVariants.{TooLong};
 
 use super::fault::{LineFault, ReadFault};
 use checksum::crc;
-use telegram::Telegram;
-
-const SOH: u8 = 0x01;
-
-const STX: u8 = 0x02;
-
-const ETX: u8 = 0x03;
-
-const EOT: u8 = 0x04;
+use telegram::{EOT, ETX, SOH, STX, Telegram};
 
 const LONGEST_BURST: usize = 512;
 
-// The tests of the line at an SOH, the cheap ones first: the len of the telegram that stands there, or the first test
-// that fails.
-fn check_at(burst: &[u8], p: usize) -> Result<u8, LineFault>
-    requires { (p < length burst.now) × ((at burst.now p ≡ 0x01) × (IsShort burst.now)) }
-    ensures { MatchResult result (λ n. Stands burst.now p × (n ≡ len burst.now p)) (λ f. Failed burst.now p f) }
-{
-    let end = burst.len();
-    if end < p + 7 {
-        return Err(LineFault::EndsBeforeLen { end });
-    }
-    let len = burst[p + 6];
-    if len < 2 || len > 212 {
-        return Err(LineFault::LenOutOfRange { position: p + 6 });
-    }
-    let n = len as usize;
-    if end < p + (12 + n) {
-        return Err(LineFault::EndsTooEarly { end });
-    }
-    if burst[p + 7] != STX {
-        return Err(LineFault::WrongStx { position: p + 7 });
-    }
-    let etx = p + (8 + n);
-    if burst[etx] != ETX {
-        return Err(LineFault::WrongEtx { position: etx });
-    }
-    let eot = p + (11 + n);
-    if burst[eot] != EOT {
-        return Err(LineFault::WrongEot { position: eot });
-    }
-    let sum = p + (9 + n);
-    if burst[sum] as u16 + 256 * burst[sum + 1] as u16 != crc(&burst[p..sum]) {
-        return Err(LineFault::WrongChecksum { position: sum });
-    }
-    Ok(len)
+// The bytes of a burst that is not too long.
+#[derive(Clone, Copy)]
+struct Burst<'a> {
+    bytes: &'a [u8],
+    ghost short: { IsShort bytes.now },
 }
 
-// The first telegram that begins at `start` or later.
-fn search_from<'a>(burst: &'a [u8], start: usize) -> Option<Telegram<'a>>
-    requires { IsShort burst.now }
-    ensures { MatchOption result (NoneBetween burst.now start (length burst.now)) (λ t. (p : ℕ) × Views burst.now p t × Stands burst.now p × (start ≤ p) × NoneBetween burst.now start p) }
-{
-    for p in start..burst.len() {
-        if burst[p] == SOH {
-            if let Ok(len) = check_at(burst, p) {
-                return Some(Telegram::new(burst, p as u16, len));
+impl<'a> Burst<'a> {
+    fn new(bytes: &'a [u8]) -> Result<Burst<'a>, ReadFault>
+        ensures same { IfOk result (λ burst. burst.bytes.now ≡ bytes.now) }
+        ensures long { OnErr result (512 < length bytes.now) }
+        ensures fault { IfErr result (λ e. e ≡ TooLong) }
+    {
+        if bytes.len() > LONGEST_BURST {
+            return Err(ReadFault::TooLong);
+        }
+        Ok(Burst { bytes })
+    }
+
+    // The tests of the line at an SOH, the cheap ones first: the len of the telegram that stands there, or the first
+    // test that fails.
+    fn check_at(&self, p: usize) -> Result<u8, LineFault>
+        requires inside { p < length self.now.bytes.now }
+        requires soh { at self.now.bytes.now p ≡ 0x01 }
+        ensures stands { MatchResult result (λ _. Stands self.now.bytes.now p) (Failed self.now.bytes.now p) }
+        ensures len { IfOk result (λ n. n ≡ len self.now.bytes.now p) }
+    {
+        let burst = self.bytes;
+        let end = burst.len();
+        if end < p + 7 {
+            return Err(LineFault::EndsBeforeLen { end });
+        }
+        let len = burst[p + 6];
+        if len < 2 || len > 212 {
+            return Err(LineFault::LenOutOfRange { position: p + 6 });
+        }
+        let n = usize::from(len);
+        if end < p + (12 + n) {
+            return Err(LineFault::EndsTooEarly { end });
+        }
+        if burst[p + 7] != STX {
+            return Err(LineFault::WrongStx { position: p + 7 });
+        }
+        let etx = p + (8 + n);
+        if burst[etx] != ETX {
+            return Err(LineFault::WrongEtx { position: etx });
+        }
+        let eot = p + (11 + n);
+        if burst[eot] != EOT {
+            return Err(LineFault::WrongEot { position: eot });
+        }
+        let sum = p + (9 + n);
+        if u16::from_le_bytes([burst[sum], burst[sum + 1]]) != crc(&burst[p..sum]) {
+            return Err(LineFault::WrongChecksum { position: sum });
+        }
+        Ok(len)
+    }
+
+    // The first telegram that begins at `start` or later.
+    fn search_from(&self, start: usize) -> Option<Telegram<'a>>
+        ensures { MatchOption result (NoneBetween self.now.bytes.now start (length self.now.bytes.now)) (ShowsFirstFrom self.now.bytes.now start) }
+    {
+        for p in start..self.bytes.len() {
+            if self.bytes[p] == SOH {
+                if let Ok(len) = self.check_at(p) {
+                    return Some(Telegram::new(self.bytes, p as u16, len));
+                }
             }
         }
+        None
     }
-    None
-}
 
-fn first_soh(burst: &[u8]) -> Option<usize>
-    ensures { MatchOption result (HasNoSoh burst.now) (λ p. (p < length burst.now) × FirstSoh burst.now p) }
-{
-    for (p, byte) in burst.iter().enumerate() {
-        if *byte == SOH {
-            return Some(p);
+    fn first_soh(&self) -> Option<usize>
+        ensures { MatchOption result (HasNoSoh self.now.bytes.now) (λ p. (p < length self.now.bytes.now) × FirstSoh self.now.bytes.now p) }
+    {
+        self.bytes.iter().position(|byte| *byte == SOH)
+    }
+
+    // The telegram, or why none stands there.
+    fn locate(&self) -> Result<Telegram<'a>, ReadFault>
+        ensures { MatchResult result (ShowsFirst self.now.bytes.now) (Unread self.now.bytes.now) }
+    {
+        if let Some(telegram) = self.search_from(0) {
+            return Ok(telegram);
         }
+        let Some(p) = self.first_soh() else {
+            let end = self.bytes.len();
+            return Err(ReadFault::AtLine(LineFault::NoSoh { end }));
+        };
+        let len = self.check_at(p)?;
+        Ok(Telegram::new(self.bytes, p as u16, len))
     }
-    None
-}
-
-// The telegram of a burst, or why none stands in it.
-fn locate<'a>(burst: &'a [u8]) -> Result<Telegram<'a>, LineFault>
-    requires { IsShort burst.now }
-    ensures { MatchResult result (λ t. (p : ℕ) × Views burst.now p t × First burst.now p) (λ f. NoneStands burst.now × Faulty burst.now f) }
-{
-    if let Some(telegram) = search_from(burst, 0) {
-        return Ok(telegram);
-    }
-    let Some(p) = first_soh(burst) else {
-        return Err(LineFault::NoSoh { end: burst.len() });
-    };
-    let len = check_at(burst, p)?;
-    Ok(Telegram::new(burst, p as u16, len))
 }
 
 // The telegram of a burst, or none; a burst of more than 512 bytes is refused.
-pub fn find<'a>(burst: &'a [u8]) -> Result<Option<Telegram<'a>>, ReadFault>
-    ensures { MatchResult result (λ o. IsShort burst.now × MatchOption o (NoneStands burst.now) (λ t. (p : ℕ) × Views burst.now p t × First burst.now p)) (λ e. (e ≡ TooLong) × Unread burst.now e) }
+pub fn find(burst: &[u8]) -> Result<Option<Telegram<'_>>, ReadFault>
+    ensures found { MatchResult result (λ o. MatchOption o (NoneStands burst.now) (ShowsFirst burst.now)) (Unread burst.now) }
+    ensures short { OnOk result (IsShort burst.now) }
+    ensures fault { IfErr result (λ e. e ≡ TooLong) }
 {
-    if burst.len() > LONGEST_BURST {
-        return Err(ReadFault::TooLong);
-    }
-    Ok(search_from(burst, 0))
+    Ok(Burst::new(burst)?.search_from(0))
 }
 
 // The telegram of a burst, or the fault that its first SOH tells.
-pub fn read<'a>(burst: &'a [u8]) -> Result<Telegram<'a>, ReadFault>
-    ensures { MatchResult result (λ t. IsShort burst.now × ((p : ℕ) × Views burst.now p t × First burst.now p)) (λ e. Unread burst.now e) }
+pub fn read(burst: &[u8]) -> Result<Telegram<'_>, ReadFault>
+    ensures found { MatchResult result (ShowsFirst burst.now) (Unread burst.now) }
+    ensures short { OnOk result (IsShort burst.now) }
 {
-    if burst.len() > LONGEST_BURST {
-        return Err(ReadFault::TooLong);
-    }
-    let telegram = locate(burst)?;
-    Ok(telegram)
+    Burst::new(burst)?.locate()
 }

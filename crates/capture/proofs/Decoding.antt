@@ -1,8 +1,7 @@
 -- A line decoded a character at a time. Assumes nothing.
-use Rattle.std.proofs.Common.{◌≡◌, ℕ, ◌+◌, ◌-◌, ◌*◌, ◌<◌, ◌≤◌, true, false, List, [], ◌∷◌, ◌++◌, length, get_or, drop, is_some, Some, None, Ok, Err, Option, Result, sym, refl, ap, ◌∙◌, arith}
+use Rattle.std.proofs.Common.{◌≡◌, ℕ, ◌+◌, ◌-◌, ◌*◌, ◌<◌, ◌≤◌, ◌⊎◌, inl, inr, List, [], ◌∷◌, ◌++◌, length, get_or, drop, Some, None, Ok, Err, Option, Result, sym, refl, ap, ◌∙◌, arith}
 use Rattle.std.proofs.lemmas.Bool.Decides.{nat_tests}
 use Rattle.std.proofs.lemmas.List.{append_assoc, append-nil, drop_more, drop_all}
-use Rattle.std.proofs.lemmas.Bool.{false≢true, true≢false}
 use Rattle.capture.specs.declared.hex.HexFault.{HexFault}
 use Rattle.capture.specs.declared.hex.HexFault.TheVariants.{NotHex, HalfByte}
 use Rattle.capture.specs.declared.hex.Kind.{Kind}
@@ -27,70 +26,79 @@ behind_more : (bs : List ℕ) (b : ℕ) (r : Result (List ℕ) HexFault) → beh
 behind_more bs b (Ok more) = ap Ok (sym (append_assoc bs (b ∷ []) more))
 behind_more bs b (Err f) = refl
 
+none_or_some : (o : Option ℕ) → (o ≡ None) ⊎ ((x : ℕ) × (o ≡ Some x))
+none_or_some None = inl refl
+none_or_some (Some x) = inr (x, refl)
+
 -- a digit is below 16
 pub digit_small : (c x : ℕ) → kind_of c ≡ Digit x → x < 16
 digit_small c x h = grind (arith, nat_tests)
 
--- One character more, by what it is and by what waits.
-module _ (line : List ℕ) (i : ℕ) (bytes : List ℕ) (inside : i < length line) where
+-- One character more, by its kind k and by what waits.
+module _ (line : List ℕ) (i : ℕ) (bytes : List ℕ) (inside : i < length line) (high : Option ℕ) (left : Left line i high bytes) (k : Kind) (kind : k ≡ kind_of (get_or line i 0)) where
   abbrev c : ℕ
   c = get_or line i 0
 
   abbrev rest : Option ℕ → Result (List ℕ) HexFault
-  rest high = decoded (i + 1 + 1) high (drop (i + 1) line)
+  rest waiting = decoded (i + 1 + 1) waiting (drop (i + 1) line)
 
   -- the character stands in front of what is left
-  here : (high : Option ℕ) → Left line i high bytes → line_decoded line ≡ behind bytes (decoded (i + 1) high (c ∷ drop (i + 1) line))
-  here high left = left ∙ ap (λ (l : List ℕ). behind bytes (decoded (i + 1) high l)) (drop_more line i 0 inside)
+  here : (waiting : Option ℕ) → high ≡ waiting → line_decoded line ≡ behind bytes (decoded (i + 1) waiting (c ∷ drop (i + 1) line))
+  here waiting same =
+      left ∙ ap (λ (l : List ℕ). behind bytes (decoded (i + 1) high l)) (drop_more line i 0 inside)
+      ∙ ap (λ (h : Option ℕ). behind bytes (decoded (i + 1) h (c ∷ drop (i + 1) line))) same
 
-  by_first : (k : Kind) → kind_of c ≡ k → Left line i None bytes → line_decoded line ≡ behind bytes (first k (i + 1) c (λ x. rest (Some x)) (rest None))
+  by_first : (m : Kind) → k ≡ m → high ≡ None → line_decoded line ≡ behind bytes (first m (i + 1) c (λ x. rest (Some x)) (rest None))
   unfolding decoded
-  by_first k is left =
-      here None left ∙ ap (λ (m : Kind). behind bytes (first m (i + 1) c (λ x. rest (Some x)) (rest None))) is
+  by_first m is none =
+      here None none ∙ ap (λ (n : Kind). behind bytes (first n (i + 1) c (λ x. rest (Some x)) (rest None))) (sym kind ∙ is)
 
-  by_second : (x : ℕ) (k : Kind) → kind_of c ≡ k → Left line i (Some x) bytes → line_decoded line ≡ behind bytes (second k (i + 1) c x (rest None))
+  by_second : (x : ℕ) (m : Kind) → k ≡ m → high ≡ Some x → line_decoded line ≡ behind bytes (second m (i + 1) c x (rest None))
   unfolding decoded
-  by_second x k is left = here (Some x) left ∙ ap (λ (m : Kind). behind bytes (second m (i + 1) c x (rest None))) is
+  by_second x m is some =
+      here (Some x) some ∙ ap (λ (n : Kind). behind bytes (second n (i + 1) c x (rest None))) (sym kind ∙ is)
 
-  pub waits : (x : ℕ) → kind_of c ≡ Digit x → Left line i None bytes → Left line (i + 1) (Some x) bytes
-  waits x is left = by_first (Digit x) is left
+  pub waits : (x : ℕ) → k ≡ Digit x → high ≡ None → Left line (i + 1) (Some x) bytes × Small (Some x)
+  waits x is none = (by_first (Digit x) is none, digit_small c x (sym kind ∙ is))
 
-  pub joins : (x y : ℕ) → kind_of c ≡ Digit y → Left line i (Some x) bytes → Left line (i + 1) None (bytes ++ (16 * x + y) ∷ [])
-  joins x y is left = by_second x (Digit y) is left ∙ behind_more bytes (16 * x + y) (rest None)
+  pub joins : (x y : ℕ) → k ≡ Digit y → high ≡ Some x → Left line (i + 1) None (bytes ++ (16 * x + y) ∷ [])
+  joins x y is some = by_second x (Digit y) is some ∙ behind_more bytes (16 * x + y) (rest None)
 
-  pub skips : (high : Option ℕ) → is_some high ≡ false → kind_of c ≡ Blank → Left line i high bytes → Left line (i + 1) high bytes
-  skips None none is left = by_first Blank is left
-  skips (Some x) none is left = absurd (true≢false none)
+  pub skips : k ≡ Blank → high ≡ None → Left line (i + 1) high bytes
+  skips is none = by_first Blank is none ∙ ap (λ (h : Option ℕ). behind bytes (rest h)) (sym none)
 
-  pub ends : (high : Option ℕ) → is_some high ≡ false → kind_of c ≡ Comment → Left line i high bytes → line_decoded line ≡ Ok bytes
-  ends None none is left = by_first Comment is left ∙ ap Ok (append-nil bytes)
-  ends (Some x) none is left = absurd (true≢false none)
+  pub ends : k ≡ Comment → high ≡ None → line_decoded line ≡ Ok bytes
+  ends is none = by_first Comment is none ∙ ap Ok (append-nil bytes)
 
-  half : (high : Option ℕ) (k : Kind) → is_some high ≡ true → kind_of c ≡ k → ((x : ℕ) → second k (i + 1) c x (rest None) ≡ Err (HalfByte (i + 1 - 1))) → Left line i high bytes → line_decoded line ≡ Err (HalfByte i)
-  half None k waiting is told left = absurd (false≢true waiting)
-  half (Some x) k waiting is told left =
+  half : (x : ℕ) (m : Kind) → k ≡ m → second m (i + 1) c x (rest None) ≡ Err (HalfByte (i + 1 - 1)) → high ≡ Some x → line_decoded line ≡ Err (HalfByte i)
+  half x m is told some =
       let column : i + 1 - 1 ≡ i = omega arith in
-      by_second x k is left ∙ ap (behind bytes) (told x) ∙ ap (λ (j : ℕ). Err (HalfByte j)) column
+      by_second x m is some ∙ ap (behind bytes) told ∙ ap (λ (j : ℕ). Err (HalfByte j)) column
 
-  pub half_blank : (high : Option ℕ) → is_some high ≡ true → kind_of c ≡ Blank → Left line i high bytes → line_decoded line ≡ Err (HalfByte i)
-  half_blank high waiting is left = half high Blank waiting is (λ x. refl) left
+  pub halves : (x : ℕ) → (k ≡ Blank) ⊎ (k ≡ Comment) → high ≡ Some x → line_decoded line ≡ Err (HalfByte i)
+  halves x (inl is) some = half x Blank is refl some
+  halves x (inr is) some = half x Comment is refl some
 
-  pub half_comment : (high : Option ℕ) → is_some high ≡ true → kind_of c ≡ Comment → Left line i high bytes → line_decoded line ≡ Err (HalfByte i)
-  half_comment high waiting is left = half high Comment waiting is (λ x. refl) left
-
-  pub wrong : (high : Option ℕ) → kind_of c ≡ Other → Left line i high bytes → line_decoded line ≡ Err (NotHex (i + 1) c)
-  wrong None is left = by_first Other is left
-  wrong (Some x) is left = by_second x Other is left
+  pub wrong : k ≡ Other → line_decoded line ≡ Err (NotHex (i + 1) c)
+  wrong is =
+      elim (none_or_some high) [
+        | inl none ↦ by_first Other is none
+        | inr some ↦ by_second some.0 Other is some.1
+      ]
 
 -- the end of the line
-pub all : (line bytes : List ℕ) (i : ℕ) → length line ≤ i → Left line i None bytes → line_decoded line ≡ Ok bytes
-unfolding decoded
-all line bytes i past left =
-    left ∙ ap (λ (l : List ℕ). behind bytes (decoded (i + 1) None l)) (drop_all i line past) ∙ ap Ok (append-nil bytes)
+module _ (line bytes : List ℕ) (i : ℕ) (past : length line ≤ i) (high : Option ℕ) (left : Left line i high bytes) where
+  nothing_left : (waiting : Option ℕ) → high ≡ waiting → line_decoded line ≡ behind bytes (decoded (i + 1) waiting [])
+  nothing_left waiting same =
+      left ∙ ap (λ (l : List ℕ). behind bytes (decoded (i + 1) high l)) (drop_all i line past)
+      ∙ ap (λ (h : Option ℕ). behind bytes (decoded (i + 1) h [])) same
 
-pub all_but_half : (line bytes : List ℕ) (i x : ℕ) → length line ≤ i → Left line i (Some x) bytes → line_decoded line ≡ Err (HalfByte i)
-unfolding decoded
-all_but_half line bytes i x past left =
-    let column : i + 1 - 1 ≡ i = omega arith in
-    left ∙ ap (λ (l : List ℕ). behind bytes (decoded (i + 1) (Some x) l)) (drop_all i line past)
-    ∙ ap (λ (j : ℕ). Err (HalfByte j)) column
+  pub all : high ≡ None → line_decoded line ≡ Ok bytes
+  unfolding decoded
+  all none = nothing_left None none ∙ ap Ok (append-nil bytes)
+
+  pub all_but_half : (x : ℕ) → high ≡ Some x → i ≡ length line → line_decoded line ≡ Err (HalfByte (length line))
+  unfolding decoded
+  all_but_half x some end =
+      let column : i + 1 - 1 ≡ length line = omega arith in
+      nothing_left (Some x) some ∙ ap (λ (j : ℕ). Err (HalfByte j)) column

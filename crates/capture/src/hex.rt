@@ -4,9 +4,11 @@ ghost use Rattle.capture.specs.Hex.{kind_of, Decoded};
 ghost use Rattle.capture.specs.declared.hex.HexFault.TheVariants.{OutOfMemory};
 
 use std::alloc::{AllocFailed, Global};
+use std::error::Error;
+use std::fmt;
 
 // What a character of a line is.
-#[derive(Clone, Copy)]
+#[derive(Clone, Copy, Debug, PartialEq, Eq)]
 pub enum Kind {
     Digit(u8),
     Blank,
@@ -15,7 +17,7 @@ pub enum Kind {
 }
 
 // Why a line is no burst. Columns count from 1.
-#[derive(Clone, Copy)]
+#[derive(Clone, Copy, Debug, PartialEq, Eq)]
 pub enum HexFault {
     // A character that has no place in a line.
     NotHex { column: usize, character: u8 },
@@ -23,6 +25,28 @@ pub enum HexFault {
     HalfByte { column: usize },
     OutOfMemory,
 }
+
+impl fmt::Display for HexFault {
+    fn fmt<W: fmt::Write>(&self, f: &mut fmt::Formatter<W>) -> fmt::Result {
+        match *self {
+            HexFault::NotHex { column, character } if character.is_ascii_graphic() => {
+                let shown = character as char;
+                write!(f, "column {column}: '{shown}' is no hex digit")
+            }
+            HexFault::NotHex { column, character } => write!(
+                f,
+                "column {column}: the byte {character:02X}h is no hex digit"
+            ),
+            HexFault::HalfByte { column } => write!(
+                f,
+                "column {column}: this hex digit has no second one behind it"
+            ),
+            HexFault::OutOfMemory => write!(f, "out of memory"),
+        }
+    }
+}
+
+impl Error for HexFault {}
 
 impl<T: Drop> From<AllocFailed<T>> for HexFault {
     ghost from_gives = { λ _ r. r ≡ OutOfMemory };
@@ -51,32 +75,20 @@ pub fn decode(heap: Global, line: &[u8]) -> Result<Vec<u8>, HexFault>
 {
     let mut bytes = Vec::new(heap);
     let mut high = None;
-    for (i, character) in line.iter().enumerate() {
-        match classify(*character) {
-            Kind::Digit(digit) => match high {
-                None => high = Some(digit),
-                Some(x) => {
-                    bytes.push(16 * x + digit)?;
-                    high = None;
-                }
-            },
-            Kind::Blank => {
-                if high.is_some() {
-                    return Err(HexFault::HalfByte { column: i });
-                }
+    for (i, &character) in line.iter().enumerate() {
+        match (classify(character), high) {
+            (Kind::Digit(digit), None) => high = Some(digit),
+            (Kind::Digit(digit), Some(x)) => {
+                bytes.push(16 * x + digit)?;
+                high = None;
             }
-            Kind::Comment => {
-                if high.is_some() {
-                    return Err(HexFault::HalfByte { column: i });
-                }
-                return Ok(bytes);
-            }
-            Kind::Other => {
-                return Err(HexFault::NotHex {
-                    column: i + 1,
-                    character: *character,
-                });
-            }
+            (Kind::Blank, None) => {}
+            (Kind::Comment, None) => return Ok(bytes),
+            (Kind::Blank | Kind::Comment, Some(_)) => return Err(HexFault::HalfByte { column: i }),
+            (Kind::Other, _) => return Err(HexFault::NotHex {
+                column: i + 1,
+                character,
+            }),
         }
     }
     match high {

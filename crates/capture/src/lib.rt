@@ -5,4 +5,4 @@ mod hex;
 mod tally;
 
 pub use hex::{HexFault, Kind, classify, decode};
-pub use tally::{Seen, Tally, sort_of};
+pub use tally::{Seen, Tally};

@@ -35,17 +35,16 @@ const TABLE: [u16; 256] = [
 pub fn update(crc: u16, byte: u8) -> u16
     ensures { result ≡ updated crc byte }
 {
-    let low = (crc ^ byte as u16) & 0xff;
-    (crc >> 8) ^ TABLE[low as usize]
+    let low = (crc ^ u16::from(byte)) & 0xff;
+    (crc >> 8) ^ TABLE[usize::from(low)]
 }
 
 // The checksum of these bytes.
+#[tactic(auto, unfolding(crate::specs::Crc::crc))]
 pub fn crc(bytes: &[u8]) -> u16
     ensures { result ≡ crc bytes.now }
 {
-    let mut register = 0xffff;
-    for byte in bytes {
-        register = update(register, *byte);
-    }
-    register
+    bytes
+        .iter()
+        .fold(0xffff, |register, byte| update(register, *byte))
 }

@@ -2,11 +2,11 @@
 use Rattle.std.proofs.Common.{◌≡◌, ℕ, ◌<◌, true, false, cond, eqb, ltb, List, length, get_or, sym, ap, ◌∙◌, subst, inl, inr, arith}
 use Rattle.std.proofs.lemmas.Bool.{cond-true, cond-false, lt-ltb, le-ltb, eq-eqb, ne_eqb, cases_eq}
 use Rattle.address.specs.Addressing.{controller, reaches}
-use Rattle.board.specs.Meaning.{Share, SameBut}
+use Rattle.board.specs.Meaning.{Rules, Share, SameBut}
 use Rattle.lines.specs.Making.{line_at}
 use Rattle.lines.specs.declared.Lines.{Lines}
 use Rattle.lines.proofs.Apart.{addresses_differ, windows_apart, station_there}
-use Rattle.station.specs.Model.{Rules, Station, station_of, answered, overheard}
+use Rattle.station.specs.Model.{Station, station_of, answered, overheard}
 use Rattle.station.specs.declared.Record.{Record}
 use Rattle.telegram.specs.Layout.{Frame, part}
 use Rattle.head.specs.Burst.{Cabinet, Moved, Stayed}

@@ -7,6 +7,7 @@ use Rattle.std.proofs.lemmas.Bool.{lt-ltb, cond-true}
 use Rattle.board.specs.Meaning.{Share}
 use Rattle.lines.specs.Making.{line_at}
 use Rattle.lines.specs.declared.Lines.{Lines}
+use Rattle.lines.proofs.Apart.{window_inside}
 use Rattle.station.specs.Model.{station_of}
 use Rattle.station.specs.declared.Record.{Record}
 use Rattle.station.specs.declared.StationLine.{StationLine}
@@ -18,6 +19,10 @@ pub line_is : (t : Lines) (slot : ℕ) (l : StationLine) → slot < t.count → 
 line_is t slot l inside h =
     let there : Some l ≡ Some (line_at t slot) = h ∙ cond-true (ltb slot t.count) (Some (line_at t slot)) None (lt-ltb slot t.count inside) in
     cc
+
+-- its window lies in the memory
+pub line_inside : (t : Lines) (slot : ℕ) (l : StationLine) → slot < t.count → l ≡ line_at t slot → l.first + l.size ≤ t.memory
+line_inside t slot l inside line = subst (λ (x : StationLine). x.first + x.size ≤ t.memory) (sym line) (window_inside t slot inside)
 
 -- the settings before and after, of a line that is lent as a part of the memory
 pub lent : (l : StationLine) (memory : List ℕ) → take (l.first + l.size - l.first) (drop l.first memory) ≡ part memory l.first l.size

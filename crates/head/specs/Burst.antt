@@ -1,10 +1,10 @@
 -- What the call `burst` does, for every input. Assumes nothing.
 use Rattle.std.specs.Prelude.{◌≡◌, ℕ, ◌+◌, ◌<◌, ◌≤◌, Bool, true, false, List, ◌++◌, length, drop, Some, None, Ok, Err, Option, Result, ◌≢◌, slice_index}
 use Rattle.address.specs.Addressing.{controller}
-use Rattle.board.specs.Meaning.{Share, Same}
+use Rattle.board.specs.Meaning.{Rules, Share, Same}
 use Rattle.burst.specs.Telegram.{telegram_of}
 use Rattle.lines.specs.Making.{line_at}
-use Rattle.station.specs.Model.{Rules, answered}
+use Rattle.station.specs.Model.{answered}
 use Rattle.telegram.specs.Layout.{Frame, frame_bytes}
 use Rattle.head.specs.Bursts.{heard, reply_to}
 use Rattle.head.specs.State.{stations, record_at, station_at}
@@ -24,6 +24,9 @@ pub record Cabinet : Type 0 where
   pub head : Head
   pub memory : List ℕ
   pub shares : ℕ → Share
+
+abbrev pub cabinet : Head → List ℕ → (ℕ → Share) → Cabinet
+cabinet head memory shares = record { head = head; memory = memory; shares = shares }
 
 -- nothing moved
 pub record Stayed (a b : Cabinet) : Type 0 where

@@ -1,7 +1,8 @@
 -- What a burst does. Assumes nothing.
 use Rattle.std.specs.Prelude.{◌≡◌, ℕ, ◌+◌, cond, List, length, take, drop, ◌==◌}
+use Rattle.board.specs.Meaning.{Rules}
 use Rattle.address.specs.Addressing.{controller, reaches}
-use Rattle.station.specs.Model.{Rules, Station, answered, overheard}
+use Rattle.station.specs.Model.{Station, answered, overheard}
 use Rattle.telegram.specs.Layout.{Frame}
 
 -- WHAT A TELEGRAM MAKES OF A STATION: only a controller's does anything; one that is addressed to it is answered, and a

@@ -1,6 +1,8 @@
 -- What the calls besides a burst do: put, condition and tick. Assumes nothing.
 use Rattle.std.specs.Prelude.{◌≡◌, ℕ, ◌+◌, ◌-◌, ◌^◌, min, Bool, cond, ◌&&◌, ◌||◌, is_ok, Ok, Err, Result, ◌==◌, nat_le, nat_lt}
 use Rattle.board.specs.Meaning.{Share, Stored, kept, not_puttable, wrong_type}
+use Rattle.board.specs.declared.PutRefusal.{PutRefusal}
+use Rattle.board.specs.declared.PutRefusal.TheVariants.{NoSlot, NotPuttable as BoardNotPuttable, WrongType as BoardWrongType}
 use Rattle.readings.specs.declared.outcome.Outcome.{Outcome}
 use Rattle.station.specs.declared.Record.{Record}
 use Rattle.head.specs.State.{stations, record_at}
@@ -20,6 +22,12 @@ put_number WrongType = 22
 abbrev pub condition_number : ConditionFault → ℕ
 condition_number NoSuchStation = 20
 condition_number NoSuchCode = 23
+
+-- what the head refuses where the board refuses a put
+abbrev pub put_fault : PutRefusal → PutFault
+put_fault NoSlot = NoStation
+put_fault BoardNotPuttable = NotPuttable
+put_fault BoardWrongType = WrongType
 
 -- what a put answers where the board's rule says so,
 abbrev pub put_by : Stored → Result (Unit {0}) PutFault

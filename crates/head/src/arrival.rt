@@ -1,11 +1,11 @@
 // A burst arrives.
 ghost use Rattle.std.specs.Prelude.{◌≡◌, ◌≤◌, true, false, ◌++◌, length, drop, is_some, IfSome, if◌then◌else◌, Some, None, MatchOption};
 ghost use Rattle.burst.specs.Telegram.{telegram_of};
-ghost use Rattle.payload.specs.Spelled.{spelled};
+ghost use Rattle.board.specs.Boards.{rules};
 ghost use Rattle.telegram.specs.Layout.{frame_bytes};
 ghost use Rattle.telegram.specs.View.{frame};
 ghost use Rattle.address.specs.Addressing.{controller};
-ghost use Rattle.head.specs.Burst.{Accepting, Bursting, Served, has_replied};
+ghost use Rattle.head.specs.Burst.{Accepting, Bursting, Served, cabinet, has_replied};
 ghost use Rattle.head.specs.State.{stations};
 ghost use Rattle.head.specs.Bursts.{reply_to};
 
@@ -18,32 +18,28 @@ use payload::Payload;
 use telegram::{Fields, write};
 
 // Which station replied, and in how many bytes.
-#[derive(Clone, Copy)]
+#[derive(Clone, Copy, Debug, PartialEq, Eq)]
 pub struct Answered {
     pub slot: usize,
     pub length: usize,
 }
 
 // The fields of the burst's telegram.
-fn asked<'a>(burst: &'a [u8]) -> Option<Fields<'a>>
+fn asked(burst: &[u8]) -> Option<Fields<'_>>
     requires { length burst.now ≤ 512 }
     ensures { MatchOption result (telegram_of burst.now ≡ None) (λ f. telegram_of burst.now ≡ Some (frame f)) }
 {
-    match find(burst) {
-        Ok(found) => match found {
-            Some(telegram) => Some(telegram.fields()),
-            None => None,
-        },
-        Err(_) => unreachable(),
-    }
+    let found = find(burst).unwrap();
+    found.map(|telegram| telegram.fields())
 }
 
 // Writes the reply of the station that was asked, and tells its length. No byte is written but on a line that talks.
 fn reply_with(line: &LineRecord, fields: &Fields<'_>, payload: &Payload, reply: &mut [u8]) -> usize
-    requires { (224 ≤ length reply.old) × (line.now.talking ≡ true) }
+    requires room { 224 ≤ length reply.old }
+    requires talking { line.now.talking ≡ true }
     ensures short { result ≤ 224 }
-    ensures count { result ≡ length (frame_bytes (reply_to (frame fields.now) (spelled payload.now))) }
-    ensures bytes { reply.new ≡ frame_bytes (reply_to (frame fields.now) (spelled payload.now)) ++ drop result reply.old }
+    ensures count { result ≡ length (frame_bytes (reply_to (frame fields.now) payload.now)) }
+    ensures bytes { reply.new ≡ frame_bytes (reply_to (frame fields.now) payload.now) ++ drop result reply.old }
 {
     let answer = Fields {
         version: 0x10,
@@ -53,10 +49,7 @@ fn reply_with(line: &LineRecord, fields: &Fields<'_>, payload: &Payload, reply: 
         command_version: 0x10,
         payload: payload.as_slice(),
     };
-    match write(&answer, reply) {
-        Ok(n) => n,
-        Err(_) => unreachable(),
-    }
+    write(&answer, reply).unwrap()
 }
 
 // Talks on the line while the reply is written.
@@ -64,8 +57,8 @@ fn talk(line: &mut LineRecord, fields: &Fields<'_>, payload: &Payload, reply: &m
     requires { 224 ≤ length reply.old }
     ensures listens { line.new.talking ≡ false }
     ensures short { result ≤ 224 }
-    ensures count { result ≡ length (frame_bytes (reply_to (frame fields.now) (spelled payload.now))) }
-    ensures bytes { reply.new ≡ frame_bytes (reply_to (frame fields.now) (spelled payload.now)) ++ drop result reply.old }
+    ensures count { result ≡ length (frame_bytes (reply_to (frame fields.now) payload.now)) }
+    ensures bytes { reply.new ≡ frame_bytes (reply_to (frame fields.now) payload.now) ++ drop result reply.old }
 {
     line.begin();
     let talk = Talk(line);
@@ -82,9 +75,12 @@ impl Head {
         fields: &Fields<'_>,
         reply: &mut [u8],
     ) -> Option<Answered>
-        requires { (stations self.old ≤ B.count board.old) × ((length memory.old ≡ self.old.lines.memory) × ((224 ≤ length reply.old) × (controller fields.now.sender.0 ≡ true))) }
+        requires enough { stations self.old ≤ B.count board.old }
+        requires memory { length memory.old ≡ self.old.lines.memory }
+        requires room { 224 ≤ length reply.old }
+        requires asked { controller fields.now.sender.0 ≡ true }
         ensures same { B.count board.new ≡ B.count board.old }
-        ensures served { Served (record { tells = B.tells; stored = B.stored; restarted = B.restarted }) (frame fields.now) (record { head = self.old; memory = memory.old; shares = B.share board.old }) (record { head = self.new; memory = memory.new; shares = B.share board.new }) reply.old reply.new result }
+        ensures served { Served (rules B.Board) (frame fields.now) (cabinet self.old memory.old (B.share board.old)) (cabinet self.new memory.new (B.share board.new)) reply.old reply.new result }
         ensures short { IfSome result (λ answered. answered.length ≤ 224) }
         ensures listens { line.new.talking ≡ (if is_some result then false else line.old.talking) }
     {
@@ -107,8 +103,8 @@ impl Head {
         reply: &mut [u8],
     ) -> Result<Option<Answered>, BurstFault>
         ensures same { B.count board.new ≡ B.count board.old }
-        ensures done { Bursting (record { tells = B.tells; stored = B.stored; restarted = B.restarted }) (record { head = self.old; memory = memory.old; shares = B.share board.old }) (record { head = self.new; memory = memory.new; shares = B.share board.new }) (B.count board.old) burst.now reply.old reply.new result }
-        ensures accepted { Accepting (record { head = self.old; memory = memory.old; shares = B.share board.old }) (B.count board.old) burst.now reply.old result }
+        ensures done { Bursting (rules B.Board) (cabinet self.old memory.old (B.share board.old)) (cabinet self.new memory.new (B.share board.new)) (B.count board.old) burst.now reply.old reply.new result }
+        ensures accepted { Accepting (cabinet self.old memory.old (B.share board.old)) (B.count board.old) burst.now reply.old result }
         ensures listens { line.new.talking ≡ (if has_replied result then false else line.old.talking) }
     {
         if burst.len() > 512 {

@@ -1,20 +1,20 @@
 // The calls besides a burst: put, condition and tick.
-ghost use Rattle.std.specs.Prelude.{◌≡◌, ℕ, ◌<◌, ◌&&◌, is_ok, if◌then◌else◌, ◌==◌, nat_lt};
-ghost use Rattle.head.specs.Calls.{Putting, listed, conditioned, with_code, ticked};
-ghost use Rattle.head.specs.State.{stations, record_at};
+ghost use Rattle.std.specs.Prelude.{◌≡◌};
+ghost use Rattle.head.specs.Calls.{Conditioning, Putting, Ticking, listed};
+ghost use Rattle.head.specs.State.{stations};
 
 use crate::refusal::{ConditionFault, PutFault};
 use crate::state::Head;
-use board::{Board, PutRefusal};
+use board::Board;
 use readings::Outcome;
 
 fn is_listed(code: u8) -> bool
     ensures { result ≡ listed code }
 {
-    match code {
-        0x00 | 0x10..=0x15 | 0x20..=0x2f | 0x30..=0x39 | 0x50..=0x56 | 0x60..=0x64 | 0xff => true,
-        _ => false,
-    }
+    matches!(
+        code,
+        0x00 | 0x10..=0x15 | 0x20..=0x2f | 0x30..=0x39 | 0x50..=0x56 | 0x60..=0x64 | 0xff
+    )
 }
 
 impl Head {
@@ -35,19 +35,12 @@ impl Head {
         if slot >= self.lines.count() {
             return Err(PutFault::NoStation);
         }
-        match board.put(slot, channel, outcome) {
-            Ok(()) => Ok(()),
-            Err(PutRefusal::NoSlot) => unreachable(),
-            Err(PutRefusal::NotPuttable) => Err(PutFault::NotPuttable),
-            Err(PutRefusal::WrongType) => Err(PutFault::WrongType),
-        }
+        Ok(board.put(slot, channel, outcome)?)
     }
 
     // Sets what the station in a slot tells as its condition.
     pub fn condition(&mut self, slot: usize, code: u8) -> Result<(), ConditionFault>
-        ensures lines { self.new.lines ≡ self.old.lines }
-        ensures answer { result ≡ conditioned (stations self.old) slot code }
-        ensures records { (k : ℕ) → record_at self.new k ≡ (if is_ok result && k == slot then with_code (record_at self.old k) code else record_at self.old k) }
+        ensures { Conditioning self.old self.new slot code result }
     {
         if slot >= self.lines.count() {
             return Err(ConditionFault::NoStation);
@@ -61,8 +54,7 @@ impl Head {
 
     // So many seconds have gone by.
     pub fn tick(&mut self, seconds: u32)
-        ensures lines { self.new.lines ≡ self.old.lines }
-        ensures records { (k : ℕ) → record_at self.new k ≡ (if nat_lt k (stations self.old) then ticked (record_at self.old k) seconds else record_at self.old k) }
+        ensures { Ticking self.old self.new seconds }
     {
         let count = self.lines.count();
         for slot in 0..count {

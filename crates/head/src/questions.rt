@@ -32,10 +32,6 @@ impl Head {
     pub fn record(&self, slot: usize) -> Option<Record>
         ensures { result ≡ (if nat_lt slot (stations self.now) then Some (record_at self.now slot) else None) }
     {
-        if slot < self.lines.count() {
-            Some(self.records[slot])
-        } else {
-            None
-        }
+        self.records[..self.lines.count()].get(slot).copied()
     }
 }

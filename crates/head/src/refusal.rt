@@ -1,9 +1,14 @@
-// Why a put or a condition is refused.
+// Why a put, a condition or a burst is refused.
 ghost use Rattle.std.specs.Prelude.{◌≡◌};
-ghost use Rattle.head.specs.Burst.{number as burst-number};
-ghost use Rattle.head.specs.Calls.{put_number, condition_number};
+ghost use Rattle.head.specs.Burst as bursting;
+ghost use Rattle.head.specs.Calls.{put_number, condition_number, put_fault};
 
-#[derive(Clone, Copy)]
+use board::PutRefusal;
+use refusals::Refusal;
+use std::error::Error;
+use std::fmt;
+
+#[derive(Clone, Copy, Debug, PartialEq, Eq)]
 pub enum PutFault {
     // The board that is brought has fewer slots than the head has stations.
     TooFewSlots,
@@ -15,10 +20,10 @@ pub enum PutFault {
     WrongType,
 }
 
-impl PutFault {
-    pub fn number(self) -> u8
-        ensures { result ≡ put_number self }
-    {
+impl Refusal for PutFault {
+    ghost number = { put_number };
+
+    fn number(&self) -> u8 {
         match self {
             PutFault::TooFewSlots => 12,
             PutFault::NoStation => 20,
@@ -28,7 +33,35 @@ impl PutFault {
     }
 }
 
-#[derive(Clone, Copy)]
+impl fmt::Display for PutFault {
+    fn fmt<W: fmt::Write>(&self, f: &mut fmt::Formatter<W>) -> fmt::Result {
+        f.write_str(match self {
+            PutFault::TooFewSlots => "the board has fewer slots than there are stations",
+            PutFault::NoStation => "there is no station in this slot",
+            PutFault::NotPuttable => "the channel takes no put",
+            PutFault::WrongType => {
+                "not of the channel's type, or a fault that the board does not store"
+            }
+        })
+    }
+}
+
+impl Error for PutFault {}
+
+// What a board refuses, the head refuses for the same reason: where the board has no slot, there is no station.
+impl From<PutRefusal> for PutFault {
+    ghost from_gives = { λ refusal fault. fault ≡ put_fault refusal };
+
+    fn from(refusal: PutRefusal) -> PutFault {
+        match refusal {
+            PutRefusal::NoSlot => PutFault::NoStation,
+            PutRefusal::NotPuttable => PutFault::NotPuttable,
+            PutRefusal::WrongType => PutFault::WrongType,
+        }
+    }
+}
+
+#[derive(Clone, Copy, Debug, PartialEq, Eq)]
 pub enum ConditionFault {
     // The head has no station in that slot.
     NoStation,
@@ -36,10 +69,10 @@ pub enum ConditionFault {
     NoSuchCode,
 }
 
-impl ConditionFault {
-    pub fn number(self) -> u8
-        ensures { result ≡ condition_number self }
-    {
+impl Refusal for ConditionFault {
+    ghost number = { condition_number };
+
+    fn number(&self) -> u8 {
         match self {
             ConditionFault::NoStation => 20,
             ConditionFault::NoSuchCode => 23,
@@ -47,7 +80,18 @@ impl ConditionFault {
     }
 }
 
-#[derive(Clone, Copy)]
+impl fmt::Display for ConditionFault {
+    fn fmt<W: fmt::Write>(&self, f: &mut fmt::Formatter<W>) -> fmt::Result {
+        f.write_str(match self {
+            ConditionFault::NoStation => "there is no station in this slot",
+            ConditionFault::NoSuchCode => "no status has this code",
+        })
+    }
+}
+
+impl Error for ConditionFault {}
+
+#[derive(Clone, Copy, Debug, PartialEq, Eq)]
 pub enum BurstFault {
     // The burst has more than 512 bytes.
     TooLong,
@@ -59,10 +103,10 @@ pub enum BurstFault {
     TooFewSlots,
 }
 
-impl BurstFault {
-    pub fn number(self) -> u8
-        ensures { result ≡ burst-number self }
-    {
+impl Refusal for BurstFault {
+    ghost number = { bursting.number };
+
+    fn number(&self) -> u8 {
         match self {
             BurstFault::TooLong => 10,
             BurstFault::ReplyTooShort => 11,
@@ -71,3 +115,16 @@ impl BurstFault {
         }
     }
 }
+
+impl fmt::Display for BurstFault {
+    fn fmt<W: fmt::Write>(&self, f: &mut fmt::Formatter<W>) -> fmt::Result {
+        f.write_str(match self {
+            BurstFault::TooLong => "the burst has more than 512 bytes",
+            BurstFault::ReplyTooShort => "the reply buffer has fewer than 224 bytes",
+            BurstFault::OtherMemory => "the memory has another length than at the start",
+            BurstFault::TooFewSlots => "the board has fewer slots than there are stations",
+        })
+    }
+}
+
+impl Error for BurstFault {}

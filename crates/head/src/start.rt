@@ -23,10 +23,7 @@ impl Head {
     ) -> Result<Head, StartRefusal>
         ensures { MatchResult result (λ h. Started lines.now memory (B.count board.now) h) (λ e. NotStarted lines.now memory (B.count board.now) e) }
     {
-        let table = match Lines::new(lines, memory) {
-            Ok(table) => table,
-            Err(refusal) => return Err(refusal),
-        };
+        let table = Lines::new(lines, memory)?;
         if board.slots() < table.count() {
             return Err(StartRefusal::FewSlots);
         }

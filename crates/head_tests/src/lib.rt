@@ -8,6 +8,7 @@ mod tests {
     use board::Board;
     use head::{Head, LineRecord, Talk};
     use readings::{Fault, Kind, Outcome, Reading};
+    use refusals::Refusal;
     use station::StationLine;
     use table::{Record, Table};
 
@@ -49,7 +50,7 @@ mod tests {
 
     // The reply to the manual's poll where channel 100 of the second station is at float bits 41E154F5h.
     fn polled(reply: &mut [u8], line_record: &mut LineRecord) -> Option<usize> {
-        let warm = Outcome::from_f32_bits(0x41e1_54f5);
+        let warm = Outcome::from_float_bits::<f32>(0x41e1_54f5);
         let mut records = [
             Record {
                 slot: 0,
@@ -64,20 +65,11 @@ mod tests {
                 outcome: warm,
             },
         ];
-        let Ok(mut board) = Table::new(&mut records) else {
-            return None;
-        };
-        let Ok(mut head) = Head::start(&[line(0x7002, 0), line(0x7001, 16)], 32, &board) else {
-            return None;
-        };
+        let mut board = Table::new(&mut records).ok()?;
+        let mut head = Head::start(&[line(0x7002, 0), line(0x7001, 16)], 32, &board).ok()?;
         let mut memory = [0; 32];
-        match head.burst(&mut board, &mut memory, line_record, &POLL, reply) {
-            Ok(found) => match found {
-                Some(answered) => Some(answered.length),
-                None => None,
-            },
-            Err(_) => None,
-        }
+        let drawn = head.burst(&mut board, &mut memory, line_record, &POLL, reply);
+        Some(drawn.ok()??.length)
     }
 
     #[test]
@@ -90,9 +82,7 @@ mod tests {
             0x01, 0x10, 0x01, 0xf0, 0x01, 0x70, 0x0a, 0x02, 0x23, 0x10, 0x00, 0x64, 0x00, 0x16,
             0xf5, 0x54, 0xe1, 0x41, 0x03, 0x90, 0x86, 0x04,
         ];
-        for (i, byte) in printed.iter().enumerate() {
-            assert!(rt; reply[i] == *byte);
-        }
+        assert!(rt; reply[..22] == printed[..]);
         assert!(rt; reply[22] == 0xaa);
         assert!(rt; polled(&mut [0; 223], &mut line_record) == None);
     }

@@ -3,21 +3,22 @@ use Rattle.std.proofs.Common.{◌≡◌, ℕ, zero, suc, ◌+◌, ◌<◌, ◌�
 use Rattle.std.proofs.lemmas.List.{get_or-take}
 use Rattle.std.proofs.lemmas.Bool.{and_parts, leb-true, eqb-false, not-true, cases_order}
 use Rattle.address.specs.Addressing.{station}
+use Rattle.std.specs.List.{list_all}
 use Rattle.station.specs.declared.StationLine.{StationLine}
 use Rattle.lines.specs.declared.table.Lines.{Lines}
 use Rattle.lines.specs.Making.{line_at, no_line}
-use Rattle.lines.specs.Rules.{few, every, every_two, is_station, differ, good_window, apart}
+use Rattle.lines.specs.Rules.{few, every_two, is_station, differ, good_window, apart}
 
-every_at : (t : StationLine → Bool) (xs : List StationLine) (k : ℕ) (d : StationLine) → every t xs ≡ true → k < length xs → t (get_or xs k d) ≡ true
+every_at : (t : StationLine → Bool) (xs : List StationLine) (k : ℕ) (d : StationLine) → list_all t xs ≡ true → k < length xs → t (get_or xs k d) ≡ true
 every_at t [] k d h less = absurd (omega arith)
-every_at t (x ∷ xs) zero d h less = (and_parts (t x) (every t xs) h).0
-every_at t (x ∷ xs) (suc k) d h less = every_at t xs k d (and_parts (t x) (every t xs) h).1 (omega arith)
+every_at t (x ∷ xs) zero d h less = (and_parts (t x) (list_all t xs) h).0
+every_at t (x ∷ xs) (suc k) d h less = every_at t xs k d (and_parts (t x) (list_all t xs) h).1 (omega arith)
 
 two_at : (t : StationLine → StationLine → Bool) (xs : List StationLine) (i j : ℕ) (d : StationLine) → every_two t xs ≡ true → i < j → j < length xs → t (get_or xs i d) (get_or xs j d) ≡ true
 two_at t [] i j d h a b = absurd (omega arith)
 two_at t (x ∷ xs) i zero d h a b = absurd (omega arith)
-two_at t (x ∷ xs) zero (suc j) d h a b = every_at (t x) xs j d (and_parts (every (t x) xs) (every_two t xs) h).0 (omega arith)
-two_at t (x ∷ xs) (suc i) (suc j) d h a b = two_at t xs i j d (and_parts (every (t x) xs) (every_two t xs) h).1 (omega arith) (omega arith)
+two_at t (x ∷ xs) zero (suc j) d h a b = every_at (t x) xs j d (and_parts (list_all (t x) xs) (every_two t xs) h).0 (omega arith)
+two_at t (x ∷ xs) (suc i) (suc j) d h a b = two_at t xs i j d (and_parts (list_all (t x) xs) (every_two t xs) h).1 (omega arith) (omega arith)
 
 module _ (t : Lines) where
   abbrev ls : List StationLine
@@ -30,24 +31,24 @@ module _ (t : Lines) where
   same_line k h = get_or-take t.count t.lines k no_line h
 
   disjoint : every_two apart ls ≡ true
-  disjoint = (and_parts (few ls && every is_station ls && every_two differ ls && every (good_window t.memory) ls) (every_two apart ls) t.right).1
+  disjoint = (and_parts (few ls && list_all is_station ls && every_two differ ls && list_all (good_window t.memory) ls) (every_two apart ls) t.right).1
 
-  first_four : few ls && every is_station ls && every_two differ ls && every (good_window t.memory) ls ≡ true
-  first_four = (and_parts (few ls && every is_station ls && every_two differ ls && every (good_window t.memory) ls) (every_two apart ls) t.right).0
+  first_four : few ls && list_all is_station ls && every_two differ ls && list_all (good_window t.memory) ls ≡ true
+  first_four = (and_parts (few ls && list_all is_station ls && every_two differ ls && list_all (good_window t.memory) ls) (every_two apart ls) t.right).0
 
-  good : every (good_window t.memory) ls ≡ true
-  good = (and_parts (few ls && every is_station ls && every_two differ ls) (every (good_window t.memory) ls) first_four).1
+  good : list_all (good_window t.memory) ls ≡ true
+  good = (and_parts (few ls && list_all is_station ls && every_two differ ls) (list_all (good_window t.memory) ls) first_four).1
 
   distinct : every_two differ ls ≡ true
   distinct =
-      (and_parts (few ls && every is_station ls) (every_two differ ls)
-      (and_parts (few ls && every is_station ls && every_two differ ls) (every (good_window t.memory) ls) first_four).0).1
+      (and_parts (few ls && list_all is_station ls) (every_two differ ls)
+      (and_parts (few ls && list_all is_station ls && every_two differ ls) (list_all (good_window t.memory) ls) first_four).0).1
 
-  all_stations : every is_station ls ≡ true
+  all_stations : list_all is_station ls ≡ true
   all_stations =
-      (and_parts (few ls) (every is_station ls)
-      (and_parts (few ls && every is_station ls) (every_two differ ls)
-      (and_parts (few ls && every is_station ls && every_two differ ls) (every (good_window t.memory) ls) first_four).0).0).1
+      (and_parts (few ls) (list_all is_station ls)
+      (and_parts (few ls && list_all is_station ls) (every_two differ ls)
+      (and_parts (few ls && list_all is_station ls && every_two differ ls) (list_all (good_window t.memory) ls) first_four).0).0).1
 
   -- the address of a slot is a station's
   pub station_there : (k : ℕ) → k < t.count → station (line_at t k).address.0 ≡ true

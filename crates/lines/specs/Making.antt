@@ -1,10 +1,11 @@
 -- Which rule a list of station lines breaks first, and what a table of lines holds. Assumes nothing.
 use Rattle.std.specs.Prelude.{ℕ, cond, List, take, Some, None, Option, slice_index_or}
+use Rattle.std.specs.List.{list_all}
 use Rattle.station.specs.declared.StationLine.{StationLine}
 use Rattle.lines.specs.declared.refusal.StartRefusal.{StartRefusal}
 use Rattle.lines.specs.declared.refusal.StartRefusal.TheVariants.{LineCount, NoStation, AddressTwice, BadWindow, SharedByte, FewSlots}
 use Rattle.lines.specs.declared.table.Lines.{Lines}
-use Rattle.lines.specs.Rules.{few, every, every_two, is_station, differ, good_window, apart}
+use Rattle.lines.specs.Rules.{few, every_two, is_station, differ, good_window, apart}
 
 -- every refusal with its number
 abbrev pub number : StartRefusal → ℕ
@@ -19,9 +20,9 @@ number FewSlots = 6
 abbrev pub broken : ℕ → List StationLine → Option StartRefusal
 broken memory ls =
     cond (few ls)
-    (cond (every is_station ls)
+    (cond (list_all is_station ls)
     (cond (every_two differ ls)
-    (cond (every (good_window memory) ls)
+    (cond (list_all (good_window memory) ls)
     (cond (every_two apart ls) None (Some SharedByte))
     (Some BadWindow))
     (Some AddressTwice))

@@ -1,17 +1,13 @@
 -- When a list of station lines may stand behind one connection: a test for each rule. Assumes nothing.
 use Rattle.std.specs.Prelude.{ℕ, ◌+◌, min, max, Bool, true, not, ◌&&◌, List, [], ◌∷◌, length, ◌==◌, nat_le}
+use Rattle.std.specs.List.{list_all}
 use Rattle.address.specs.Addressing.{station}
 use Rattle.station.specs.declared.StationLine.{StationLine}
-
--- every one passes
-abbrev pub every : (StationLine → Bool) → List StationLine → Bool
-every t [] = true
-every t (l ∷ ls) = t l && every t ls
 
 -- every two pass, the earlier before the later
 abbrev pub every_two : (StationLine → StationLine → Bool) → List StationLine → Bool
 every_two t [] = true
-every_two t (l ∷ ls) = every (t l) ls && every_two t ls
+every_two t (l ∷ ls) = list_all (t l) ls && every_two t ls
 
 abbrev pub few : List StationLine → Bool
 few ls = nat_le 1 (length ls) && nat_le (length ls) 32
@@ -33,4 +29,4 @@ apart a b = nat_le (min (a.first + a.size) (b.first + b.size)) (max a.first b.fi
 -- the five rules of a list
 abbrev pub sound : ℕ → List StationLine → Bool
 sound memory ls =
-    few ls && every is_station ls && every_two differ ls && every (good_window memory) ls && every_two apart ls
+    few ls && list_all is_station ls && every_two differ ls && list_all (good_window memory) ls && every_two apart ls

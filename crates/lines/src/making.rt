@@ -3,7 +3,7 @@ ghost use Rattle.std.specs.Prelude.{◌≡◌, ℕ, ◌+◌, ◌<◌, ◌≤◌,
 ghost use Rattle.lines.specs.Making.{broken, lines_of, line_at};
 
 use crate::refusal::StartRefusal;
-use crate::rules::{GoodWindow, IsStation, all_apart, all_differ, every};
+use crate::rules::{all_differ, are_apart, are_stations, have_good_windows};
 use crate::table::Lines;
 use address::Address;
 use station::StationLine;
@@ -24,7 +24,7 @@ fn table_of(lines: &[StationLine]) -> [StationLine; 32]
     ensures long { length result ≡ 32 }
 {
     let mut all = [NO_LINE; 32];
-    all[0..lines.len()].copy_from_slice(lines);
+    all[..lines.len()].copy_from_slice(lines);
     all
 }
 
@@ -34,19 +34,19 @@ impl Lines {
         ensures { MatchResult result (λ t. (broken memory lines.now ≡ None) × (lines_of t ≡ lines.now) × (t.memory ≡ memory)) (λ e. broken memory lines.now ≡ Some e) }
     {
         let count = lines.len();
-        if count < 1 || count > MOST_LINES {
+        if !(1..=MOST_LINES).contains(&count) {
             return Err(StartRefusal::LineCount);
         }
-        if !every(&IsStation, lines) {
+        if !are_stations(lines) {
             return Err(StartRefusal::NoStation);
         }
         if !all_differ(lines) {
             return Err(StartRefusal::AddressTwice);
         }
-        if !every(&GoodWindow { memory }, lines) {
+        if !have_good_windows(lines, memory) {
             return Err(StartRefusal::BadWindow);
         }
-        if !all_apart(lines) {
+        if !are_apart(lines) {
             return Err(StartRefusal::SharedByte);
         }
         Ok(Lines {
@@ -58,7 +58,8 @@ impl Lines {
 
     // How many lines there are.
     pub fn count(&self) -> usize
-        ensures { (result ≡ self.now.count) × (result ≡ length (lines_of self.now)) }
+        ensures field { result ≡ self.now.count }
+        ensures lines { result ≡ length (lines_of self.now) }
     {
         self.count
     }
@@ -75,22 +76,15 @@ impl Lines {
         ensures value { result ≡ (if nat_lt slot self.now.count then Some (line_at self.now slot) else None) }
         ensures inside { IfSome result (λ l. l.first + l.size ≤ self.now.memory) }
     {
-        if slot < self.count {
-            Some(self.lines[slot])
-        } else {
-            None
-        }
+        self.lines[..self.count].get(slot).copied()
     }
 
     // The slot of the station that has this address.
     pub fn slot_of(&self, address: Address) -> Option<usize>
         ensures { MatchOption result ((k : ℕ) → k < self.now.count → (line_at self.now k).address.0 ≢ address.0) (λ slot. (slot < self.now.count) × ((line_at self.now slot).address.0 ≡ address.0)) }
     {
-        for slot in 0..self.count {
-            if self.lines[slot].address.0 == address.0 {
-                return Some(slot);
-            }
-        }
-        None
+        self.lines[..self.count]
+            .iter()
+            .position(|line| line.address == address)
     }
 }

@@ -1,8 +1,11 @@
 // Why a head does not start.
-ghost use Rattle.std.specs.Prelude.{◌≡◌};
-ghost use Rattle.lines.specs.Making.{number};
+ghost use Rattle.lines.specs.Making as making;
 
-#[derive(Clone, Copy)]
+use refusals::Refusal;
+use std::error::Error;
+use std::fmt;
+
+#[derive(Clone, Copy, Debug, PartialEq, Eq)]
 pub enum StartRefusal {
     // There are not 1 to 32 lines.
     LineCount,
@@ -18,10 +21,10 @@ pub enum StartRefusal {
     FewSlots,
 }
 
-impl StartRefusal {
-    pub fn number(self) -> u8
-        ensures { result ≡ number self }
-    {
+impl Refusal for StartRefusal {
+    ghost number = { making.number };
+
+    fn number(&self) -> u8 {
         match self {
             StartRefusal::LineCount => 1,
             StartRefusal::NoStation => 2,
@@ -32,3 +35,20 @@ impl StartRefusal {
         }
     }
 }
+
+impl fmt::Display for StartRefusal {
+    fn fmt<W: fmt::Write>(&self, f: &mut fmt::Formatter<W>) -> fmt::Result {
+        f.write_str(match self {
+            StartRefusal::LineCount => "there are not 1 to 32 stations",
+            StartRefusal::NoStation => "an address is no station's",
+            StartRefusal::AddressTwice => "two stations have one address",
+            StartRefusal::BadWindow => {
+                "a window has more than 4,096 bytes, lies outside the memory or protects more than it has"
+            }
+            StartRefusal::SharedByte => "two windows share a byte",
+            StartRefusal::FewSlots => "the board has fewer slots than there are stations",
+        })
+    }
+}
+
+impl Error for StartRefusal {}

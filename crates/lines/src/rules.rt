@@ -1,96 +1,57 @@
 // The rules of a list of station lines.
-ghost use Rattle.std.specs.Prelude.{◌≡◌, ◌+◌, Bool};
+ghost use Rattle.std.specs.Prelude.{◌≡◌, Bool};
+ghost use Rattle.std.specs.List.{list_all};
 ghost use Rattle.lines.specs.Rules as rules;
 ghost use Rattle.station.specs.declared.StationLine.{StationLine};
 
 use station::StationLine as Line;
 
-// A test of one line. What it asks is a function of the line alone.
-pub(crate) trait Test {
-    ghost asks: { Self → StationLine → Bool };
-
-    fn passes(&self, line: &Line) -> bool
-        ensures { result ≡ asks self.now line.now };
+// Whether every address is a station's.
+pub(crate) fn are_stations(lines: &[Line]) -> bool
+    ensures { result ≡ list_all rules.is_station lines.now }
+{
+    lines.iter().all(|line| line.address.is_station())
 }
 
-pub(crate) fn every<T: Test>(test: &T, lines: &[Line]) -> bool
-    ensures { result ≡ rules.every (T.asks test.now) lines.now }
+// Whether every window is of at most 4,096 bytes, inside the memory, and no shorter than what it protects.
+pub(crate) fn have_good_windows(lines: &[Line], memory: usize) -> bool
+    ensures { result ≡ list_all (rules.good_window memory) lines.now }
 {
-    for line in lines {
-        if !test.passes(line) {
+    lines.iter().all(|line| {
+        let end = line.first as usize + line.size as usize;
+        line.size <= 4096 && end <= memory && line.protected <= line.size
+    })
+}
+
+// Whether every two lines pass a test, the earlier before the later.
+fn every_two<F: Fn(&Line, &Line) -> bool>(lines: &[Line], test: F) -> bool
+    requires { F.IsAlwaysCallable test }
+    ensures { (asks : StationLine → StationLine → Bool) → ((a b : _) (r : Bool) → F.post test a b r → r ≡ asks a.now b.now) → result ≡ rules.every_two asks lines.now }
+{
+    let mut rest = lines;
+    while let Some((line, later)) = rest.split_first() {
+        if !later.iter().all(|other| test(line, other)) {
             return false;
         }
+        rest = later;
     }
     true
 }
 
-#[derive(Clone, Copy)]
-pub(crate) struct IsStation;
-
-impl Test for IsStation {
-    ghost asks = { λ _. rules.is_station };
-
-    fn passes(&self, line: &Line) -> bool {
-        line.address.is_station()
-    }
-}
-
-#[derive(Clone, Copy)]
-pub(crate) struct GoodWindow {
-    pub(crate) memory: usize,
-}
-
-impl Test for GoodWindow {
-    ghost asks = { λ t. rules.good_window t.memory };
-
-    fn passes(&self, line: &Line) -> bool {
-        let end = line.first as usize + line.size as usize;
-        line.size <= 4096 && end <= self.memory && line.protected <= line.size
-    }
-}
-
-#[derive(Clone, Copy)]
-pub(crate) struct DiffersFrom(Line);
-
-impl Test for DiffersFrom {
-    ghost asks = { λ t. rules.differ t.0 };
-
-    fn passes(&self, line: &Line) -> bool {
-        self.0.address.0 != line.address.0
-    }
-}
-
-#[derive(Clone, Copy)]
-pub(crate) struct ApartFrom(Line);
-
-impl Test for ApartFrom {
-    ghost asks = { λ t. rules.apart t.0 };
-
-    fn passes(&self, line: &Line) -> bool {
-        let own_end = self.0.first as usize + self.0.size as usize;
-        let other_end = line.first as usize + line.size as usize;
-        own_end.min(other_end) <= (self.0.first as usize).max(line.first as usize)
-    }
-}
-
+// Whether no two lines have one address.
 pub(crate) fn all_differ(lines: &[Line]) -> bool
     ensures { result ≡ rules.every_two rules.differ lines.now }
 {
-    for i in 0..lines.len() {
-        if !every(&DiffersFrom(lines[i]), &lines[i + 1..]) {
-            return false;
-        }
-    }
-    true
+    every_two(lines, |one, other| one.address != other.address)
 }
 
-pub(crate) fn all_apart(lines: &[Line]) -> bool
+// Whether no two windows share a byte.
+pub(crate) fn are_apart(lines: &[Line]) -> bool
     ensures { result ≡ rules.every_two rules.apart lines.now }
 {
-    for i in 0..lines.len() {
-        if !every(&ApartFrom(lines[i]), &lines[i + 1..]) {
-            return false;
-        }
-    }
-    true
+    every_two(lines, |one, other| {
+        let own_end = one.first as usize + one.size as usize;
+        let other_end = other.first as usize + other.size as usize;
+        own_end.min(other_end) <= (one.first as usize).max(other.first as usize)
+    })
 }

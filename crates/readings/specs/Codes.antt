@@ -1,6 +1,8 @@
 -- The codes of the eight types and the ten faults, as the UMB manual has them in "Data Types" and in "Status and Error Codes".
 -- Assumes nothing.
-use Rattle.std.specs.Prelude.{ℕ, cond, List, [], ◌∷◌, Some, None, Option, ◌==◌}
+use Rattle.std.specs.Prelude.{◌≡◌, ℕ, cond, List, [], ◌∷◌, Some, None, Option, Result, MatchResult, ◌==◌}
+use Rattle.std.specs.Float.{Format, binary32, binary64}
+use Rattle.readings.specs.declared.code.UnknownCode.{UnknownCode}
 use Rattle.readings.specs.declared.kind.Kind.{Kind}
 use Rattle.readings.specs.declared.kind.Kind.TheVariants as K
 use Rattle.readings.specs.declared.fault.Fault.{Fault}
@@ -26,6 +28,11 @@ size_of K.U32 = 4
 size_of K.I32 = 4
 size_of K.F32 = 4
 size_of K.F64 = 8
+
+-- the type of a value that is a float of the format
+abbrev pub kind_for : Format → Kind
+kind_for binary32 = K.F32
+kind_for binary64 = K.F64
 
 abbrev pub fault_code : Fault → ℕ
 fault_code F.InvalidChannel = 0x24
@@ -57,3 +64,7 @@ kind_at = coding kind_code kinds
 
 abbrev pub fault_at : ℕ → Option Fault
 fault_at = coding fault_code faults
+
+-- the result is what a table has at the code, or an error with a code at which the table has nothing
+abbrev pub Decodes : {X : Type 0} → (ℕ → Option X) → ℕ → Result X UnknownCode → Type 0
+Decodes at code r = MatchResult r (λ x. at code ≡ Some x) (λ e. (at code ≡ None) × (e.0 ≡ code))

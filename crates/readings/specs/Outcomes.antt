@@ -1,14 +1,13 @@
 -- An outcome as two whole numbers, its code and its value, and back. Assumes nothing.
 use Rattle.std.specs.Prelude.{ℕ, cond, List, [], ◌∷◌, ℤ, pos, Some, None, Option, is_nan, to_bits, unsigned_abs, Float}
-use Rattle.std.specs.Float.{Format, binary32, binary64}
+use Rattle.std.specs.Float.{Format}
 use Rattle.readings.specs.declared.fault.Fault.{Fault}
 use Rattle.readings.specs.declared.fault.Fault.TheVariants.{CalcError, InvalidChannel}
 use Rattle.readings.specs.declared.kind.Kind.{Kind}
-use Rattle.readings.specs.declared.kind.Kind.TheVariants.{F32, F64}
 use Rattle.readings.specs.declared.outcome.Outcome.{Outcome}
 use Rattle.readings.specs.declared.outcome.Outcome.TheVariants as O
 use Rattle.readings.specs.declared.reading.Reading.{Reading}
-use Rattle.readings.specs.Codes.{fault_at, fault_code, kind_at, kind_code}
+use Rattle.readings.specs.Codes.{fault_at, fault_code, kind_at, kind_code, kind_for}
 use Rattle.readings.specs.Values.{kind_of, number, valued}
 
 -- a float that is not a number counts as a calculation error, fault 56h
@@ -19,10 +18,6 @@ counted None = O.Fault CalcError
 -- the outcome that a whole number brings: an integer's own value, a float's bits
 abbrev pub measured : Kind → ℤ → Outcome
 measured k z = counted (valued k z)
-
-abbrev pub kind_for : Format → Kind
-kind_for binary32 = F32
-kind_for binary64 = F64
 
 -- the outcome that a float brings
 abbrev pub from_float : Format → Float → Outcome

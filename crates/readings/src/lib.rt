@@ -2,18 +2,20 @@
 // The specs give every type and fault its code, a value its bytes, and an outcome its whole numbers.
 #![tactic(auto)]
 
+pub mod code;
 pub mod fault;
-pub mod float32;
-pub mod float64;
+pub mod ieee;
 pub mod kind;
+pub mod not_nan;
 pub mod outcome;
 pub mod reading;
 pub mod value;
 
+pub use code::UnknownCode;
 pub use fault::Fault;
-pub use float32::Float;
-pub use float64::Double;
+pub use ieee::Ieee;
 pub use kind::Kind;
+pub use not_nan::{Double, Float, NotNan};
 pub use outcome::Outcome;
 pub use reading::Reading;
 pub use value::Unreadable;

@@ -1,10 +1,9 @@
-ghost use Rattle.std.specs.Float.{binary32, binary64};
 ghost use Rattle.std.specs.Prelude.{◌≡◌, List, ◌++◌, ℤ, pos};
-ghost use Rattle.readings.specs.Outcomes.{code_of, coded, counted, decoded, from_float, measured};
-ghost use Rattle.readings.specs.declared.kind.Kind.TheVariants.{F32, F64};
+ghost use Rattle.readings.specs.Outcomes.{code_of, coded, decoded, from_float, measured};
+ghost use Rattle.readings.specs.Codes.{kind_for};
 
 use crate::fault::Fault;
-use crate::kind::Kind;
+use crate::ieee::Ieee;
 use crate::reading::Reading;
 
 // What a channel shows: a value, or the fault for which it has none.
@@ -16,46 +15,23 @@ pub enum Outcome {
 }
 
 impl Outcome {
-    pub fn from_f32(x: f32) -> Outcome
-        ensures { result ≡ from_float binary32 x }
+    // What a float brings: its value, or fault 56h if it is a NaN.
+    pub fn from_float<F: Ieee>(x: F) -> Outcome
+        ensures { result ≡ from_float F.format (F.float x) }
     {
         if x.is_nan() {
             Outcome::Fault(Fault::CalcError)
         } else {
-            Outcome::from_f32_bits(x.to_bits())
+            Outcome::from_float_bits::<F>(x.to_bits())
         }
     }
 
-    pub fn from_f64(x: f64) -> Outcome
-        ensures { result ≡ from_float binary64 x }
+    // What the float with these bits brings.
+    pub fn from_float_bits<F: Ieee>(bits: F::Bits) -> Outcome
+        ensures { result ≡ measured (kind_for F.format) (pos (F.number bits)) }
     {
-        if x.is_nan() {
-            Outcome::Fault(Fault::CalcError)
-        } else {
-            Outcome::from_f64_bits(x.to_bits())
-        }
-    }
-
-    pub fn from_f32_bits(bits: u32) -> Outcome
-        ensures { result ≡ measured F32 (pos bits) }
-    {
-        Outcome::counted(Reading::from_pattern(Kind::F32, bits as u64))
-    }
-
-    pub fn from_f64_bits(bits: u64) -> Outcome
-        ensures { result ≡ measured F64 (pos bits) }
-    {
-        Outcome::counted(Reading::from_pattern(Kind::F64, bits))
-    }
-
-    // A value, or the fault that a NaN counts as.
-    fn counted(value: Option<Reading>) -> Outcome
-        ensures { result ≡ counted value }
-    {
-        match value {
-            Some(value) => Outcome::Value(value),
-            None => Outcome::Fault(Fault::CalcError),
-        }
+        let value = Reading::from_pattern(F::KIND, F::widen(bits));
+        value.map_or(Outcome::Fault(Fault::CalcError), Outcome::Value)
     }
 
     // The code of the value's type, or of the fault: the first of the two whole numbers that the
@@ -65,8 +41,8 @@ impl Outcome {
         ensures back { (rest : List ℤ) → decoded (coded self ++ rest) ≡ self }
     {
         match self {
-            Outcome::Value(value) => value.kind().code(),
-            Outcome::Fault(fault) => fault.code(),
+            Outcome::Value(value) => u8::from(value.kind()),
+            Outcome::Fault(fault) => u8::from(fault),
         }
     }
 }

@@ -1,9 +1,8 @@
 ghost use Rattle.std.specs.Prelude.{◌≡◌};
 ghost use Rattle.readings.specs.Values.{kind_of};
 
-use crate::float32::Float;
-use crate::float64::Double;
 use crate::kind::Kind;
+use crate::not_nan::{Double, Float};
 
 // A value with its type.
 #[derive(Clone, Copy)]

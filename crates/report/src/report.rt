@@ -1,14 +1,15 @@
 // What a burst holds, in words.
 use super::words::{Command, Named};
-use burst::{Layer, LineFault, ReadFault};
+use burst::{LineFault, ReadFault};
 use capture::HexFault;
+use refusals::Refusal;
 use std::fmt;
 use telegram::{Part, Telegram};
 
 const ROW: usize = 16;
 
 // Bytes in hex, sixteen to a row, each row with the position of its first byte, and a caret under one of them.
-#[derive(Clone, Copy)]
+#[derive(Clone, Copy, Debug, PartialEq, Eq)]
 struct Rows<'a> {
     bytes: &'a [u8],
     first: usize,
@@ -26,9 +27,8 @@ fn point_at<W: fmt::Write>(f: &mut fmt::Formatter<W>, offset: usize) -> fmt::Res
 
 impl fmt::Display for Rows<'_> {
     fn fmt<W: fmt::Write>(&self, f: &mut fmt::Formatter<W>) -> fmt::Result {
-        let mut position = self.first;
         let end = self.first.saturating_add(self.bytes.len());
-        for row in self.bytes.chunks(ROW) {
+        for (position, row) in (self.first..end).step_by(ROW).zip(self.bytes.chunks(ROW)) {
             write!(f, "\n  {position:>4} ")?;
             for byte in row {
                 write!(f, " {byte:02X}")?;
@@ -40,36 +40,13 @@ impl fmt::Display for Rows<'_> {
                     point_at(f, offset)?;
                 }
             }
-            position = position.saturating_add(ROW);
         }
         Ok(())
     }
 }
 
-fn cause(fault: LineFault) -> &'static str {
-    match fault {
-        LineFault::NoSoh { .. } => "no SOH (01h) stands in it",
-        LineFault::EndsBeforeLen { .. } =>
-            "it ends before the len of the telegram that its first SOH begins",
-        LineFault::LenOutOfRange { .. } => "len is not 2 to 212",
-        LineFault::EndsTooEarly { .. } => "it ends before the telegram that its first SOH begins",
-        LineFault::WrongStx { .. } => "no STX (02h) where it should stand",
-        LineFault::WrongEtx { .. } => "no ETX (03h) where it should stand",
-        LineFault::WrongEot { .. } => "no EOT (04h) where it should stand",
-        LineFault::WrongChecksum { .. } => "the checksum does not fit",
-    }
-}
-
-fn layer_name(layer: Layer) -> &'static str {
-    match layer {
-        Layer::Line => "line",
-        Layer::Telegram => "telegram",
-        Layer::Answer => "answer",
-    }
-}
-
 // What stands on one line of a capture.
-#[derive(Clone, Copy)]
+#[derive(Clone, Copy, Debug, PartialEq, Eq)]
 pub struct Report<'a> {
     pub line: u64,
     pub burst: &'a [u8],
@@ -144,11 +121,10 @@ fn fault_rows<W: fmt::Write>(
         caret: Some(position),
     };
     let number = fault.number();
-    let layer = layer_name(place.layer);
-    let why = cause(fault);
+    let layer = place.layer;
     write!(
         f,
-        "fault {number}, layer {layer}, position {position}: {why}{rows}"
+        "fault {number}, layer {layer}, position {position}: {fault}{rows}"
     )
 }
 
@@ -180,7 +156,7 @@ impl fmt::Display for Report<'_> {
 }
 
 // A line that spells no burst.
-#[derive(Clone, Copy)]
+#[derive(Clone, Copy, Debug, PartialEq, Eq)]
 pub struct BadLine {
     pub line: u64,
     pub fault: HexFault,
@@ -190,22 +166,8 @@ impl fmt::Display for BadLine {
     fn fmt<W: fmt::Write>(&self, f: &mut fmt::Formatter<W>) -> fmt::Result {
         let line = self.line;
         match self.fault {
-            HexFault::NotHex { column, character } => {
-                write!(f, "line {line}, column {column}: ")?;
-                if character.is_ascii_graphic() {
-                    let shown = character as char;
-                    write!(f, "'{shown}' is no hex digit")
-                } else {
-                    write!(f, "the byte {character:02X}h is no hex digit")
-                }
-            }
-            HexFault::HalfByte { column } => {
-                write!(
-                    f,
-                    "line {line}, column {column}: this hex digit has no second one behind it"
-                )
-            }
-            HexFault::OutOfMemory => write!(f, "line {line}: out of memory"),
+            HexFault::OutOfMemory => write!(f, "line {line}: {}", HexFault::OutOfMemory),
+            fault => write!(f, "line {line}, {fault}"),
         }
     }
 }

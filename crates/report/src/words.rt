@@ -55,7 +55,7 @@ fn command_name(command: u8) -> &'static str {
 }
 
 // An address in words: its role, and which device.
-#[derive(Clone, Copy)]
+#[derive(Clone, Copy, Debug, PartialEq, Eq)]
 pub struct Named(pub Address);
 
 impl fmt::Display for Named {
@@ -76,7 +76,7 @@ impl fmt::Display for Named {
     }
 }
 
-#[derive(Clone, Copy)]
+#[derive(Clone, Copy, Debug, PartialEq, Eq)]
 pub struct Command(pub u8);
 
 impl fmt::Display for Command {

@@ -4,6 +4,7 @@
 
 #[cfg(test)]
 mod tests {
+    use refusals::Refusal;
     use ring::{Marks, Ring, RingRefusal};
     use std::test::Fail;
 
@@ -14,14 +15,6 @@ mod tests {
             ring.push(*item);
         }
         ring.newest(k)
-    }
-
-    // The number of the refusal, or 0 where there was none.
-    fn refused(res: Result<u32, RingRefusal>) -> u8 {
-        match res {
-            Ok(_) => 0,
-            Err(refusal) => refusal.number(),
-        }
     }
 
     #[test]
@@ -37,15 +30,17 @@ mod tests {
     fn keeps_the_latest_release_word_in_a_memory_of_one(rt: HostRuntime) -> Result<(), Fail> {
         let words = [0x4070_0123, 0xb070_0123];
         assert!(rt; newest(&mut [0u32; 1], &words, 0)? == 0xb070_0123);
-        assert!(rt; refused(newest(&mut [0u32; 1], &words, 1)) == 41);
+        assert!(rt; newest(&mut [0u32; 1], &words, 1) == Err(RingRefusal::NotHeld));
+        assert!(rt; RingRefusal::NotHeld.number() == 41);
         Ok(())
     }
 
     #[test]
     fn refuses_memory_too_short_or_too_long(rt: HostRuntime) {
-        assert!(rt; refused(newest(&mut [], &[7], 0)) == 40);
-        assert!(rt; refused(newest(&mut [0; 4096], &[7], 0)) == 0);
-        assert!(rt; refused(newest(&mut [0; 4097], &[7], 0)) == 40);
+        assert!(rt; newest(&mut [], &[7], 0) == Err(RingRefusal::MemorySize));
+        assert!(rt; newest(&mut [0; 4096], &[7], 0) == Ok(7));
+        assert!(rt; newest(&mut [0; 4097], &[7], 0) == Err(RingRefusal::MemorySize));
+        assert!(rt; RingRefusal::MemorySize.number() == 40);
     }
 
     // The marks of the ring in slot 1 of windows of 2, after these samples.

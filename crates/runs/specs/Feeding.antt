@@ -2,12 +2,12 @@
 -- board, memory and line record, and without the number of its slot. Assumes nothing.
 use Rattle.std.specs.Prelude.{ℕ, ◌+◌, ◌-◌, ◌^◌, min, cond, ◌&&◌, List, [], ◌∷◌, length, Some, None, Option, ◌==◌, nat_le}
 use Rattle.address.specs.Addressing.{controller}
-use Rattle.board.specs.Meaning.{Stored, kept, not_puttable, wrong_type}
+use Rattle.board.specs.Meaning.{Rules, Stored, kept, not_puttable, wrong_type}
 use Rattle.burst.specs.Telegram.{telegram_of}
 use Rattle.head.specs.Bursts.{heard, reply_to}
 use Rattle.head.specs.Calls.{share_by, listed}
 use Rattle.readings.specs.declared.outcome.Outcome.{Outcome}
-use Rattle.station.specs.Model.{Rules, Station, answered, with_clock, with_condition, with_share}
+use Rattle.station.specs.Model.{Station, answered, with_clock, with_condition, with_share}
 use Rattle.telegram.specs.Layout.{Frame, frame_bytes}
 
 -- a call for the station

@@ -1,12 +1,13 @@
 -- THE LAW ABOUT NEIGHBOURS: whoever acts on other stations cannot be noticed at a given one. Assumes nothing.
 use Rattle.std.specs.Prelude.{◌≡◌, ℕ, ◌<◌, Bool, true, false, cond, ◌||◌, List, [], ◌∷◌, Some, None, Option, ◌==◌, ◌≢◌}
+use Rattle.board.specs.Meaning.{Rules}
 use Rattle.address.specs.Addressing.{reaches}
 use Rattle.burst.specs.Telegram.{telegram_of}
 use Rattle.head.specs.Burst.{Cabinet, number}
 use Rattle.head.specs.Calls.{put_number, condition_number}
 use Rattle.head.specs.State.{stations, record_at, settings_at, station_at}
 use Rattle.lines.specs.Making.{line_at}
-use Rattle.station.specs.Model.{Rules, Station}
+use Rattle.station.specs.Model.{Station}
 use Rattle.telegram.specs.Layout.{Frame}
 use Rattle.runs.specs.Calls.{Input, burst, put, condition, tick, Output, waiting, silence, reply, done, burst_refused, put_refused, condition_refused, Exchange}
 use Rattle.runs.specs.Feeding.{Event, a_burst, a_put, a_condition, a_tick, Said, nothing, replied, refused, after_all, says_all}

@@ -1,7 +1,7 @@
 -- RUNS: lists of calls on one head with its board, memory and line record, each call finding what the earlier ones left.
 -- A step is what the call's own contract says of it. Assumes nothing.
 use Rattle.std.specs.Prelude.{◌≡◌, ℕ, ◌≤◌, List, [], ◌∷◌, length, take, Some, None, Ok, Err, Option, Result}
-use Rattle.board.specs.Meaning.{Same}
+use Rattle.board.specs.Meaning.{Rules, Same}
 use Rattle.head.specs.Burst.{Accepting, Bursting, Cabinet}
 use Rattle.head.specs.Calls.{Conditioning, Putting, Ticking}
 use Rattle.head.specs.State.{stations}
@@ -10,7 +10,6 @@ use Rattle.head.specs.declared.BurstFault.{BurstFault}
 use Rattle.head.specs.declared.ConditionFault.{ConditionFault}
 use Rattle.head.specs.declared.PutFault.{PutFault}
 use Rattle.readings.specs.declared.outcome.Outcome.{Outcome}
-use Rattle.station.specs.Model.{Rules}
 use Rattle.runs.specs.Calls.{Input, burst, put, condition, tick, Output, silence, reply, done, burst_refused, put_refused, condition_refused, Exchange}
 
 -- what the results of the calls draw; a reply lies at the front of its buffer

@@ -1,15 +1,21 @@
 // Calls of a head as a list keeps them, and what comes of each.
+ghost use Rattle.std.specs.Prelude.{◌≡◌};
+ghost use Rattle.runs.specs.Calls.{fault_number};
+ghost use Rattle.runs.specs.declared.call.CallFault.TheVariants.{Burst, Put, Condition};
+
 use head::{BurstFault, ConditionFault, PutFault};
+use payload::Bytes;
 use readings::Outcome;
+use refusals::Refusal;
+use std::error::Error;
+use std::fmt;
 
 // A call with every argument but head, board, memory and line record.
 #[derive(Clone, Copy)]
-pub enum Call {
-    // The bytes of a burst lie in the traffic that is lent to the run, `length` of them from `first` on, cut to what there
-    // is. Its reply buffer has `room` bytes, or as many as the run was lent.
+pub enum Call<'a> {
+    // A burst of these bytes. Its reply buffer has `room` bytes, or as many as the run was lent.
     Burst {
-        first: usize,
-        length: usize,
+        bytes: &'a [u8],
         room: usize,
     },
     Put {
@@ -26,32 +32,82 @@ pub enum Call {
     },
 }
 
-// The reply of the station in a slot: the first `length` bytes.
-#[derive(Clone, Copy)]
+// The reply of the station in a slot. `Bytes` keeps only zeros behind its bytes, and so nothing of another station's reply.
+#[derive(Clone, Copy, Debug, PartialEq, Eq)]
 pub struct Reply {
     pub slot: usize,
-    pub length: usize,
-    pub bytes: [u8; 224],
+    pub bytes: Bytes<224>,
 }
 
-// What came of a call.
-#[derive(Clone, Copy)]
-pub enum Told {
-    // Nothing yet: the call was not made.
-    Waiting,
+// What a call drew that was not refused.
+#[derive(Clone, Copy, Debug, PartialEq, Eq)]
+pub enum Drawn {
     // A burst that drew no reply.
     Silence,
     Replied(Reply),
     // A put, a condition or a tick that was carried out.
     Done,
-    BurstRefused(BurstFault),
-    PutRefused(PutFault),
-    ConditionRefused(ConditionFault),
 }
 
-// A call of a list, and what came of it.
+// Why a call was refused.
+#[derive(Clone, Copy, Debug, PartialEq, Eq)]
+pub enum CallFault {
+    Burst(BurstFault),
+    Put(PutFault),
+    Condition(ConditionFault),
+}
+
+impl Refusal for CallFault {
+    ghost number = { fault_number };
+
+    fn number(&self) -> u8 {
+        match self {
+            CallFault::Burst(cause) => cause.number(),
+            CallFault::Put(cause) => cause.number(),
+            CallFault::Condition(cause) => cause.number(),
+        }
+    }
+}
+
+impl fmt::Display for CallFault {
+    fn fmt<W: fmt::Write>(&self, f: &mut fmt::Formatter<W>) -> fmt::Result {
+        match self {
+            CallFault::Burst(cause) => write!(f, "{cause}"),
+            CallFault::Put(cause) => write!(f, "{cause}"),
+            CallFault::Condition(cause) => write!(f, "{cause}"),
+        }
+    }
+}
+
+impl Error for CallFault {}
+
+impl From<BurstFault> for CallFault {
+    ghost from_gives = { λ fault result. result ≡ Burst fault };
+
+    fn from(fault: BurstFault) -> CallFault {
+        CallFault::Burst(fault)
+    }
+}
+
+impl From<PutFault> for CallFault {
+    ghost from_gives = { λ fault result. result ≡ Put fault };
+
+    fn from(fault: PutFault) -> CallFault {
+        CallFault::Put(fault)
+    }
+}
+
+impl From<ConditionFault> for CallFault {
+    ghost from_gives = { λ fault result. result ≡ Condition fault };
+
+    fn from(fault: ConditionFault) -> CallFault {
+        CallFault::Condition(fault)
+    }
+}
+
+// A call of a list, and what came of it: nothing before it is made.
 #[derive(Clone, Copy)]
-pub struct Entry {
-    pub call: Call,
-    pub told: Told,
+pub struct Entry<'a> {
+    pub call: Call<'a>,
+    pub told: Option<Result<Drawn, CallFault>>,
 }

@@ -4,5 +4,5 @@
 mod call;
 mod runner;
 
-pub use call::{Call, Entry, Reply, Told};
+pub use call::{Call, CallFault, Drawn, Entry, Reply};
 pub use runner::{ReplayRefusal, replay};

@@ -1,16 +1,21 @@
 // A list of calls, each of which finds what the earlier ones left.
-ghost use Rattle.std.specs.Prelude.{◌≡◌, ◌-◌, ◌≤◌, length, take, drop, replicate};
-ghost use Rattle.telegram.specs.Layout.{part};
+ghost use Rattle.std.specs.Prelude.{◌≡◌, ◌≤◌, length, take, Some};
+ghost use Rattle.board.specs.Boards.{rules};
+ghost use Rattle.head.specs.Burst.{cabinet};
 ghost use Rattle.runs.specs.Calls.{input_of, output_of};
-ghost use Rattle.runs.specs.Replaying.{Clear, Leaving, Replaying, left_by, number};
-ghost use Rattle.runs.specs.Runs.{BurstStep, Step};
+ghost use Rattle.runs.specs.Replaying.{Leaving, Replaying, left_by, number};
+ghost use Rattle.runs.specs.Runs.{Step};
 
-use crate::call::{Call, Entry, Reply, Told};
+use crate::call::{Call, CallFault, Drawn, Entry, Reply};
 use board::Board;
 use head::{Answered, Head, LineRecord};
+use payload::Bytes;
+use refusals::Refusal;
+use std::error::Error;
+use std::fmt;
 
 // Why a list is not run.
-#[derive(Clone, Copy)]
+#[derive(Clone, Copy, Debug, PartialEq, Eq)]
 pub enum ReplayRefusal {
     // The memory that is brought has not as many bytes as that of the start.
     OtherMemory,
@@ -18,10 +23,10 @@ pub enum ReplayRefusal {
     TooFewSlots,
 }
 
-impl ReplayRefusal {
-    pub fn number(self) -> u8
-        ensures { result ≡ number self }
-    {
+impl Refusal for ReplayRefusal {
+    ghost number = { number };
+
+    fn number(&self) -> u8 {
         match self {
             ReplayRefusal::OtherMemory => 12,
             ReplayRefusal::TooFewSlots => 12,
@@ -29,95 +34,73 @@ impl ReplayRefusal {
     }
 }
 
-// So many bytes from a place on, cut to what there is.
-fn cut(bytes: &[u8], first: usize, length: usize) -> &[u8]
-    ensures { result.now ≡ part bytes.now first length }
-{
-    let start = first.min(bytes.len());
-    let end = start + length.min(bytes.len() - start);
-    &bytes[start..end]
+impl fmt::Display for ReplayRefusal {
+    fn fmt<W: fmt::Write>(&self, f: &mut fmt::Formatter<W>) -> fmt::Result {
+        f.write_str(match self {
+            ReplayRefusal::OtherMemory => "the memory has another length than at the start",
+            ReplayRefusal::TooFewSlots => "the board has fewer slots than there are stations",
+        })
+    }
 }
+
+impl Error for ReplayRefusal {}
 
 // The reply that lies at the front of a buffer. What lies behind it there may be of another station's reply, and is left
 // out.
 fn taken(answered: Answered, buffer: &[u8]) -> Reply
-    requires { (answered.length ≤ 224) × (answered.length ≤ length buffer.now) }
+    requires short { answered.length ≤ 224 }
+    requires within { answered.length ≤ length buffer.now }
     ensures slot { result.slot ≡ answered.slot }
-    ensures bytes { take result.length result.bytes ≡ take answered.length buffer.now }
-    ensures rest { drop result.length result.bytes ≡ replicate (224 - result.length) 0 }
+    ensures bytes { result.bytes ≡ take answered.length buffer.now }
 {
-    let length = answered.length;
-    let mut bytes = [0; 224];
-    bytes[0..length].copy_from_slice(&buffer[0..length]);
+    let Ok(bytes) = Bytes::from_slice(&buffer[..answered.length]) else {
+        unreachable()
+    };
     Reply {
         slot: answered.slot,
-        length,
         bytes,
     }
 }
 
-fn run_burst<B: Board>(
-    head: &mut Head,
-    board: &mut B,
-    memory: &mut [u8],
-    line: &mut LineRecord,
-    burst: &[u8],
-    reply: &mut [u8],
-) -> Told
-    ensures same { B.count board.new ≡ B.count board.old }
-    ensures step { BurstStep (record { tells = B.tells; stored = B.stored; restarted = B.restarted }) (B.count board.old) (record { head = head.old; memory = memory.old; shares = B.share board.old }) (record { head = head.new; memory = memory.new; shares = B.share board.new }) burst.now (length reply.old) (output_of result) }
-    ensures clear { Clear result }
-    ensures scene { (record { buffer = reply.new; talking = line.new.talking }) ≡ left_by (record { buffer = reply.old; talking = line.old.talking }) (output_of result) }
-{
-    match head.burst(board, memory, line, burst, reply) {
-        Ok(found) => match found {
-            Some(answered) => Told::Replied(taken(answered, reply)),
-            None => Told::Silence,
-        },
-        Err(fault) => Told::BurstRefused(fault),
-    }
-}
-
-// One call.
-fn run_one<B: Board>(
-    head: &mut Head,
-    board: &mut B,
-    memory: &mut [u8],
-    line: &mut LineRecord,
-    traffic: &[u8],
-    buffer: &mut [u8],
-    call: Call,
-) -> Told
-    ensures same { B.count board.new ≡ B.count board.old }
-    ensures step { Step (record { tells = B.tells; stored = B.stored; restarted = B.restarted }) (B.count board.old) (record { head = head.old; memory = memory.old; shares = B.share board.old }) (input_of traffic.now (length buffer.old) call) (output_of result) (record { head = head.new; memory = memory.new; shares = B.share board.new }) }
-    ensures clear { Clear result }
-    ensures scene { (record { buffer = buffer.exit.now; talking = line.new.talking }) ≡ left_by (record { buffer = buffer.entry.now; talking = line.old.talking }) (output_of result) }
-{
-    match call {
-        Call::Burst {
-            first,
-            length,
-            room,
-        } => {
-            let room = room.min(buffer.len());
-            let bytes = cut(traffic, first, length);
-            run_burst(head, board, memory, line, bytes, &mut buffer[0..room])
-        }
-        Call::Put {
-            slot,
-            channel,
-            outcome,
-        } => match head.put(board, slot, channel, outcome) {
-            Ok(()) => Told::Done,
-            Err(fault) => Told::PutRefused(fault),
-        },
-        Call::Condition { slot, code } => match head.condition(slot, code) {
-            Ok(()) => Told::Done,
-            Err(fault) => Told::ConditionRefused(fault),
-        },
-        Call::Tick { seconds } => {
-            head.tick(seconds);
-            Told::Done
+impl Call<'_> {
+    // Makes the call.
+    fn make<B: Board>(
+        self,
+        head: &mut Head,
+        board: &mut B,
+        memory: &mut [u8],
+        line: &mut LineRecord,
+        buffer: &mut [u8],
+    ) -> Result<Drawn, CallFault>
+        ensures same { B.count board.new ≡ B.count board.old }
+        ensures step { Step (rules B.Board) (B.count board.old) (cabinet head.old memory.old (B.share board.old)) (input_of (length buffer.old) self.entry) (output_of (Some result)) (cabinet head.new memory.new (B.share board.new)) }
+        ensures scene { (record { buffer = buffer.new; talking = line.new.talking }) ≡ left_by (record { buffer = buffer.old; talking = line.old.talking }) (output_of (Some result)) }
+    {
+        match self {
+            Call::Burst { bytes, room } => {
+                let room = room.min(buffer.len());
+                let reply = &mut buffer[..room];
+                match head.burst(board, memory, line, bytes, reply)? {
+                    Some(answered) => Ok(Drawn::Replied(taken(answered, reply))),
+                    None => Ok(Drawn::Silence),
+                }
+            }
+            Call::Put {
+                slot,
+                channel,
+                outcome,
+            } => {
+                head.put(board, slot, channel, outcome)?;
+                Ok(Drawn::Done)
+            }
+            Call::Condition { slot, code } => {
+                head.condition(slot, code)?;
+                Ok(Drawn::Done)
+            }
+            Call::Tick { seconds } => {
+                head.tick(seconds);
+                Ok(Drawn::Done)
+            }
         }
     }
 }
@@ -129,13 +112,12 @@ pub fn replay<B: Board>(
     board: &mut B,
     memory: &mut [u8],
     line: &mut LineRecord,
-    traffic: &[u8],
     buffer: &mut [u8],
-    list: &mut [Entry],
+    list: &mut [Entry<'_>],
 ) -> Result<(), ReplayRefusal>
     ensures same { B.count board.new ≡ B.count board.old }
-    ensures replayed { Replaying (record { tells = B.tells; stored = B.stored; restarted = B.restarted }) (B.count board.old) (record { head = head.old; memory = memory.old; shares = B.share board.old }) (record { head = head.new; memory = memory.new; shares = B.share board.new }) traffic.now (length buffer.old) list.old list.new result }
-    ensures scene { Leaving traffic.now (length buffer.entry.now) list.new (record { buffer = buffer.entry.now; talking = line.old.talking }) (record { buffer = buffer.exit.now; talking = line.new.talking }) result }
+    ensures replayed { Replaying (rules B.Board) (B.count board.old) (cabinet head.old memory.old (B.share board.old)) (cabinet head.new memory.new (B.share board.new)) (length buffer.old) list.old list.new result }
+    ensures scene { Leaving (length buffer.old) list.new (record { buffer = buffer.old; talking = line.old.talking }) (record { buffer = buffer.new; talking = line.new.talking }) result }
 {
     if memory.len() != head.memory() {
         return Err(ReplayRefusal::OtherMemory);
@@ -143,10 +125,8 @@ pub fn replay<B: Board>(
     if board.slots() < head.count() {
         return Err(ReplayRefusal::TooFewSlots);
     }
-    for i in 0..list.len() {
-        let next = list[i].call;
-        let told = run_one(head, board, memory, line, traffic, buffer, next);
-        list[i].told = told;
+    for entry in list.iter_mut() {
+        entry.told = Some(entry.call.make(head, board, memory, line, buffer));
     }
     Ok(())
 }

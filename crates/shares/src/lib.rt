@@ -25,14 +25,14 @@ fn number_of(reading: Reading) -> i128
     ensures { result ≡ number reading }
 {
     match reading {
-        Reading::U8(n) => n as i128,
-        Reading::I8(n) => n as i128,
-        Reading::U16(n) => n as i128,
-        Reading::I16(n) => n as i128,
-        Reading::U32(n) => n as i128,
-        Reading::I32(n) => n as i128,
-        Reading::F32(x) => x.to_bits() as i128,
-        Reading::F64(x) => x.to_bits() as i128,
+        Reading::U8(n) => i128::from(n),
+        Reading::I8(n) => i128::from(n),
+        Reading::U16(n) => i128::from(n),
+        Reading::I16(n) => i128::from(n),
+        Reading::U32(n) => i128::from(n),
+        Reading::I32(n) => i128::from(n),
+        Reading::F32(x) => i128::from(x.to_bits()),
+        Reading::F64(x) => i128::from(x.to_bits()),
     }
 }
 
@@ -46,41 +46,22 @@ fn second_number(outcome: Outcome) -> i128
     }
 }
 
-fn unsigned(n: usize) -> i128
-    ensures { result ≡ pos n }
-{
-    n as i128
-}
-
-fn signed(z: i32) -> i128
-    ensures { result ≡ z }
-{
-    z as i128
-}
-
-fn append(numbers: &mut Vec<i128>, number: i128) -> Result<(), AllocError>
-    ensures { OnOk result (numbers.new.items ≡ numbers.old.items ++ number ∷ []) }
-{
-    numbers.push(number)?;
-    Ok(())
-}
-
 fn append_record(numbers: &mut Vec<i128>, row: Record) -> Result<(), AllocError>
     ensures { OnOk result (numbers.new.items ≡ numbers.old.items ++ written row.channel (kind_code row.kind) row.outcome) }
 {
-    append(numbers, unsigned(row.channel as usize))?;
-    append(numbers, unsigned(row.kind.code() as usize))?;
-    append(numbers, unsigned(row.outcome.code() as usize))?;
-    append(numbers, second_number(row.outcome))?;
-    Ok(())
+    numbers.extend_from_slice(&[
+        i128::from(row.channel),
+        i128::from(u8::from(row.kind)),
+        i128::from(row.outcome.code()),
+        second_number(row.outcome),
+    ])
 }
 
 impl Shares for Table<'_> {
     fn numbers(&self, heap: Global, slot: usize) -> Result<Vec<i128>, AllocError> {
         let mut numbers = Vec::new(heap);
-        let records = self.records();
-        for row in records {
-            if row.slot as usize == slot {
+        for row in self.records() {
+            if usize::from(row.slot) == slot {
                 append_record(&mut numbers, *row)?;
             }
         }
@@ -91,19 +72,16 @@ impl Shares for Table<'_> {
 fn append_samples(numbers: &mut Vec<i128>, samples: &[i32]) -> Result<(), AllocError>
     ensures { OnOk result (numbers.new.items ≡ numbers.old.items ++ samples.now) }
 {
-    for sample in samples {
-        append(numbers, signed(*sample))?;
-    }
-    Ok(())
+    numbers.extend(samples.iter().copied().map(i128::from))
 }
 
 impl Shares for Statistics<'_> {
     fn numbers(&self, heap: Global, slot: usize) -> Result<Vec<i128>, AllocError> {
         let mut numbers = Vec::new(heap);
-        append(&mut numbers, unsigned(self.window()))?;
-        if let Some((older, newer)) = self.samples(slot) {
-            append_samples(&mut numbers, older)?;
-            append_samples(&mut numbers, newer)?;
+        numbers.push(self.window() as i128)?;
+        if let Some(samples) = self.samples(slot) {
+            append_samples(&mut numbers, samples.older)?;
+            append_samples(&mut numbers, samples.newer)?;
         }
         Ok(numbers)
     }

@@ -1,19 +1,13 @@
 -- THE MODEL STATION: what one station answers, and what becomes of it, from its own state and the board's rules alone.
 -- Neither the slot's number nor the place of its window in the memory occurs here. Assumes nothing.
 use Rattle.std.specs.Prelude.{◌≡◌, ℕ, Bool, cond, ◌&&◌, ◌||◌, List, [], ◌∷◌, drop, ◌==◌}
-use Rattle.board.specs.Meaning.{Share, Stored, Same, SameBut}
+pub use Rattle.board.specs.Meaning.{Rules}
+use Rattle.board.specs.Meaning.{Share, Same, SameBut}
 use Rattle.readings.specs.Bytes.{little_endian, weighed}
-use Rattle.readings.specs.declared.outcome.Outcome.{Outcome}
 use Rattle.telegram.specs.Layout.{at, word, Frame}
 use Rattle.station.specs.declared.record.Record.{Record}
 use Rattle.station.specs.declared.record.StationLine.{StationLine}
 use Rattle.station.specs.Replies as replies
-
--- what a board's make knows: its three rules
-pub record Rules : Type 0 where
-  pub tells : Share → ℕ → Outcome
-  pub stored : Share → ℕ → Outcome → Stored
-  pub restarted : Share → Share
 
 pub record Station : Type 0 where
   -- its line

@@ -3,7 +3,7 @@ use address::Address;
 
 // What is fixed at the start: the address, where the station's window of the settings memory begins, how many bytes it
 // has, and how many of its leading bytes may not be written.
-#[derive(Clone, Copy)]
+#[derive(Clone, Copy, Debug, PartialEq, Eq)]
 pub struct StationLine {
     pub address: Address,
     pub first: u32,
@@ -12,7 +12,7 @@ pub struct StationLine {
 }
 
 // What changes.
-#[derive(Clone, Copy)]
+#[derive(Clone, Copy, Debug, PartialEq, Eq)]
 pub struct Record {
     // Seconds.
     pub clock: u32,

@@ -1,5 +1,5 @@
 -- What a channel shows by its slot's share, by where the first record of the channel stands. Assumes nothing.
-use Rattle.std.proofs.Common.{◌≡◌, ℕ, zero, suc, ◌<◌, Bool, true, false, cond, eqb, List, [], ◌∷◌, ◌++◌, get_or, sym, refl, ap, ◌∙◌, le_of_suc-le-suc, arith}
+use Rattle.std.proofs.Common.{◌≡◌, ℕ, zero, suc, ◌<◌, Bool, true, false, cond, eqb, List, [], ◌∷◌, ◌++◌, Option, None, Some, MatchOption, get_or, sym, refl, ap, ◌∙◌, subst, le_of_suc-le-suc, arith}
 use Rattle.std.proofs.lemmas.List.{get_or_default}
 use Rattle.std.proofs.lemmas.Bool.{eq-eqb, ne_eqb, eqb-true}
 use Rattle.board.specs.Meaning.{Looked}
@@ -49,3 +49,9 @@ module _ (rs : List Record) (slot channel : ℕ) (within : slot < 32) where
 
   pub look_missing : Missing rs slot channel → Looked table_tells 32 (λ k. share_of k rs) slot channel (Fault InvalidChannel)
   look_missing h = looked (Fault InvalidChannel) (missing rs slot channel h)
+
+  pub look_found : (r : Option ℕ) (o : Outcome) → MatchOption r (Missing rs slot channel) (First rs slot channel)
+      → MatchOption r (o ≡ Fault InvalidChannel) (λ i. (d : Record) × (o ≡ (get_or rs i d).outcome))
+      → Looked table_tells 32 (λ k. share_of k rs) slot channel o
+  look_found None o h e = subst (Looked table_tells 32 (λ k. share_of k rs) slot channel) (sym e) (look_missing h)
+  look_found (Some i) o h e = subst (Looked table_tells 32 (λ k. share_of k rs) slot channel) (sym e.1) (look_first i e.0 h)

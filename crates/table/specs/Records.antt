@@ -7,8 +7,6 @@ use Rattle.readings.specs.declared.kind.Kind.TheVariants as K
 use Rattle.readings.specs.declared.outcome.Outcome.{Outcome}
 use Rattle.readings.specs.declared.outcome.Outcome.TheVariants.{Value, Fault}
 use Rattle.readings.specs.declared.reading.Reading.TheVariants as V
-use Rattle.table.specs.declared.record.Condition.{Condition}
-use Rattle.table.specs.declared.record.Condition.TheVariants.{InRange, Present, Typed}
 use Rattle.table.specs.declared.record.Record.{Record}
 
 -- fault 24h, which says that there is no such channel
@@ -24,14 +22,21 @@ is_of_type code (Fault f) = true
 abbrev pub at : List Record → ℕ → Record
 at rs k = slice_index_or rs k (record { slot = 0; channel = 0; kind = K.U8; outcome = Value (V.U8 0) })
 
--- slots are 0 to 31, channels 0 to 65534; fault 24h is no record's outcome; a value is of its record's type
-abbrev pub meets : Condition → Record → Bool
-meets InRange r = nat_lt r.slot 32 && nat_lt r.channel 65535
-meets Present r = not (is_absent r.outcome)
-meets Typed r = is_of_type (kind_code r.kind) r.outcome
+-- slots are 0 to 31, channels 0 to 65534
+abbrev pub in_range : Record → Bool
+in_range r = nat_lt r.slot 32 && nat_lt r.channel 65535
 
-abbrev pub AllMeet : Condition → List Record → Type 0
-AllMeet condition rs = (k : ℕ) → k < length rs → meets condition (at rs k) ≡ true
+-- fault 24h is no record's outcome
+abbrev pub present : Record → Bool
+present r = not (is_absent r.outcome)
+
+-- a value is of its record's type
+abbrev pub typed : Record → Bool
+typed r = is_of_type (kind_code r.kind) r.outcome
+
+-- every record passes a test
+abbrev pub AllMeet : (Record → Bool) → List Record → Type 0
+AllMeet test rs = (k : ℕ) → k < length rs → test (at rs k) ≡ true
 
 -- a record of this slot's channel
 abbrev pub Of : ℕ → ℕ → Record → Type 0

@@ -1,5 +1,5 @@
 ghost use Rattle.std.specs.Prelude.{◌≡◌};
-ghost use Rattle.table.specs.Records.{is_absent, is_of_type, meets};
+ghost use Rattle.table.specs.Records.{in_range, is_absent, is_of_type, present, typed};
 ghost use Rattle.readings.specs.Codes.{kind_code};
 
 use readings::{Fault, Kind, Outcome};
@@ -13,26 +13,26 @@ pub struct Record {
     pub outcome: Outcome,
 }
 
-// What is asked of every record of a table.
-#[derive(Clone, Copy)]
-pub(crate) enum Condition {
-    // The slot is one of the 32, and the channel is not 65535.
-    InRange,
-    // The outcome is not fault 24h.
-    Present,
-    // A value is of the record's type.
-    Typed,
-}
-
 impl Record {
-    pub(crate) fn meets(self, condition: Condition) -> bool
-        ensures { result ≡ meets condition self }
+    // The slot is one of the 32, and the channel is not 65535.
+    pub(crate) fn is_in_range(&self) -> bool
+        ensures { result ≡ in_range self.now }
     {
-        match condition {
-            Condition::InRange => self.slot < 32 && self.channel < 65535,
-            Condition::Present => !is_absent(self.outcome),
-            Condition::Typed => is_of_type(self.outcome, self.kind),
-        }
+        self.slot < 32 && self.channel < 65535
+    }
+
+    // The outcome is not fault 24h.
+    pub(crate) fn is_present(&self) -> bool
+        ensures { result ≡ present self.now }
+    {
+        !is_absent(self.outcome)
+    }
+
+    // A value is of the record's type.
+    pub(crate) fn is_typed(&self) -> bool
+        ensures { result ≡ typed self.now }
+    {
+        is_of_type(self.outcome, self.kind)
     }
 }
 
@@ -40,7 +40,7 @@ impl Record {
 pub(crate) fn is_absent(outcome: Outcome) -> bool
     ensures { result ≡ is_absent outcome }
 {
-    outcome.code() == Fault::InvalidChannel.code()
+    matches!(outcome, Outcome::Fault(Fault::InvalidChannel))
 }
 
 // A value is of the type; a fault is of every type.
@@ -48,7 +48,7 @@ pub(crate) fn is_of_type(outcome: Outcome, kind: Kind) -> bool
     ensures { result ≡ is_of_type (kind_code kind) outcome }
 {
     match outcome {
-        Outcome::Value(value) => value.kind().code() == kind.code(),
+        Outcome::Value(value) => value.kind() == kind,
         Outcome::Fault(_) => true,
     }
 }

@@ -1,9 +1,9 @@
 ghost use Rattle.std.specs.Prelude.{◌≡◌, Ok, Err, MatchBool, MatchOption, MatchResult};
 ghost use Rattle.table.specs.Making.{Refused, Sound};
-ghost use Rattle.table.specs.Records.{AllMeet, Apart, First, Missing, Repeats};
+ghost use Rattle.table.specs.Records.{Apart, First, Missing};
 ghost use Rattle.table.specs.Shares.{Replaced, share_of, table_restarted, table_stored, table_tells};
 
-use crate::record::{Condition, Record, is_absent, is_of_type};
+use crate::record::{Record, is_absent, is_of_type};
 use crate::refusal::TableRefusal;
 use board::{Board, PutRefusal};
 use readings::{Fault, Outcome};
@@ -16,12 +16,7 @@ const MOST_RECORDS: usize = 4096;
 fn find(records: &[Record], slot: usize, channel: u16) -> Option<usize>
     ensures { MatchOption result (Missing records.now slot channel) (First records.now slot channel) }
 {
-    for (i, record) in records.iter().enumerate() {
-        if record.slot as usize == slot && record.channel == channel {
-            return Some(i);
-        }
-    }
-    None
+    records.iter().position(|record| usize::from(record.slot) == slot && record.channel == channel)
 }
 
 // Puts an outcome in place of that of the first record of a slot's channel.
@@ -33,42 +28,21 @@ fn replace(
 ) -> Result<(), PutRefusal>
     ensures { Replaced slot channel outcome records.old records.new result }
 {
-    let Some(i) = find(records, slot, channel) else {
-        return Err(PutRefusal::NotPuttable);
-    };
-    if is_absent(outcome) {
-        return Err(PutRefusal::WrongType);
-    }
-    if !is_of_type(outcome, records[i].kind) {
+    let i = find(records, slot, channel).ok_or(PutRefusal::NotPuttable)?;
+    if is_absent(outcome) || !is_of_type(outcome, records[i].kind) {
         return Err(PutRefusal::WrongType);
     }
     records[i].outcome = outcome;
     Ok(())
 }
 
-// The places of two records of the same slot and channel.
-fn repeated(records: &[Record]) -> Option<(usize, usize)>
-    ensures { MatchOption result (Apart records.now) (λ p. Repeats records.now p.0 p.1) }
+// Whether no two records have the same slot and channel.
+fn are_apart(records: &[Record]) -> bool
+    ensures { MatchBool result (Apart records.now) (Apart records.now → ⊥) }
 {
-    for (j, record) in records.iter().enumerate() {
-        if let Some(i) = find(records, record.slot as usize, record.channel) {
-            if i < j {
-                return Some((i, j));
-            }
-        }
-    }
-    None
-}
-
-fn all_meet(records: &[Record], condition: Condition) -> bool
-    ensures { MatchBool result (AllMeet condition records.now) (AllMeet condition records.now → ⊥) }
-{
-    for record in records {
-        if !record.meets(condition) {
-            return false;
-        }
-    }
-    true
+    records.iter().enumerate().all(|(j, record)| {
+        find(&records[..j], usize::from(record.slot), record.channel).is_none()
+    })
 }
 
 // Whether a table may be made of the records, and if not, the first reason.
@@ -78,19 +52,19 @@ fn check(records: &[Record]) -> Result<(), TableRefusal>
     if records.len() > MOST_RECORDS {
         return Err(TableRefusal::TooManyRecords);
     }
-    if !all_meet(records, Condition::InRange) {
+    if !records.iter().all(Record::is_in_range) {
         return Err(TableRefusal::OutOfRange);
     }
-    if !all_meet(records, Condition::Present) {
+    if !records.iter().all(Record::is_present) {
         return Err(TableRefusal::AbsentChannel);
     }
-    if !all_meet(records, Condition::Typed) {
+    if !records.iter().all(Record::is_typed) {
         return Err(TableRefusal::WrongType);
     }
-    match repeated(records) {
-        Some(_) => Err(TableRefusal::PairTwice),
-        None => Ok(()),
+    if !are_apart(records) {
+        return Err(TableRefusal::PairTwice);
     }
+    Ok(())
 }
 
 // A board of records in lent memory.
@@ -104,10 +78,8 @@ impl<'a> Table<'a> {
     pub fn new(records: &'a mut [Record]) -> Result<Table<'a>, TableRefusal>
         ensures { elim result [ Ok t ↦ Sound records.old × (t.records.now ≡ records.old) | Err e ↦ Refused e records.old ] }
     {
-        match check(records) {
-            Ok(()) => Ok(Table { records }),
-            Err(refusal) => Err(refusal),
-        }
+        check(records)?;
+        Ok(Table { records })
     }
 
     // The records that it holds, in order.
@@ -137,11 +109,10 @@ impl Board for Table<'_> {
         if slot >= SLOTS {
             return Outcome::Fault(Fault::InvalidChannel);
         }
-        let records: &[Record] = self.records;
-        match find(records, slot, channel) {
-            Some(i) => records[i].outcome,
-            None => Outcome::Fault(Fault::InvalidChannel),
-        }
+        find(self.records, slot, channel).map_or(
+            Outcome::Fault(Fault::InvalidChannel),
+            |i| self.records[i].outcome,
+        )
     }
 
     fn put(&mut self, slot: usize, channel: u16, outcome: Outcome) -> Result<(), PutRefusal> {

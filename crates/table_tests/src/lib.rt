@@ -6,6 +6,7 @@
 mod tests {
     use board::{Board, PutRefusal};
     use readings::{Fault, Kind, Outcome, Reading};
+    use refusals::Refusal;
     use std::test::Fail;
     use table::{Record, Table};
 
@@ -37,21 +38,16 @@ mod tests {
     // The value, or the fault's code, which no value of these tests has.
     fn shown(outcome: Outcome) -> u16 {
         match outcome {
-            Outcome::Value(value) => match value {
-                Reading::U16(n) => n,
-                _ => 0,
-            },
-            Outcome::Fault(fault) => fault.code() as u16,
+            Outcome::Value(Reading::U16(n)) => n,
+            Outcome::Value(_) => 0,
+            Outcome::Fault(fault) => u16::from(u8::from(fault)),
         }
     }
 
     fn float_bits(outcome: Outcome) -> Option<u32> {
         match outcome {
-            Outcome::Value(value) => match value {
-                Reading::F32(x) => Some(x.to_bits()),
-                _ => None,
-            },
-            Outcome::Fault(_) => None,
+            Outcome::Value(Reading::F32(x)) => Some(x.to_bits()),
+            _ => None,
         }
     }
 
@@ -101,7 +97,7 @@ mod tests {
         let Ok(mut table) = Table::new(&mut records) else {
             return Err(Fail::new("refused"));
         };
-        let minus_zero = Outcome::from_f32_bits(0x8000_0000);
+        let minus_zero = Outcome::from_float_bits::<f32>(0x8000_0000);
         let put = table.put(0, 100, minus_zero);
         assert!(rt; putting(put) == 0);
         assert!(rt; float_bits(table.look(0, 100)) == Some(0x8000_0000));

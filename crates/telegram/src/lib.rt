@@ -5,4 +5,4 @@ mod view;
 mod writer;
 
 pub use view::{Fields, Part, Telegram};
-pub use writer::{WriteRefusal, write};
+pub use writer::{EOT, ETX, LONGEST_TELEGRAM, SOH, STX, WriteRefusal, write};

@@ -6,7 +6,7 @@ ghost use Rattle.telegram.specs.View.{IsPart, burst_of, frame};
 use address::Address;
 
 // Some bytes of a burst, which know their position there.
-#[derive(Clone, Copy)]
+#[derive(Clone, Copy, Debug, PartialEq, Eq)]
 pub struct Part<'a> {
     pub position: usize,
     pub bytes: &'a [u8],
@@ -23,7 +23,7 @@ impl Part<'_> {
 
 // The telegram that begins at `start`. What would lie past the end of the burst reads as nothing or 0, so no question
 // can go out of bounds; of a telegram that `find` or `read` gives, all of it lies in the burst.
-#[derive(Clone, Copy)]
+#[derive(Clone, Copy, Debug, PartialEq, Eq)]
 pub struct Telegram<'a> {
     burst: &'a [u8],
     start: u16,
@@ -31,7 +31,7 @@ pub struct Telegram<'a> {
 }
 
 // What a telegram says.
-#[derive(Clone, Copy)]
+#[derive(Clone, Copy, Debug, PartialEq, Eq)]
 pub struct Fields<'a> {
     pub version: u8,
     pub receiver: Address,
@@ -44,30 +44,34 @@ pub struct Fields<'a> {
 fn byte_at(burst: &[u8], i: usize) -> u8
     ensures { result ≡ at burst.now i }
 {
-    if i < burst.len() { burst[i] } else { 0 }
+    burst.get(i).copied().unwrap_or(0)
 }
 
 fn word_at(burst: &[u8], i: usize) -> u16
     requires { i < 2 ^ 32 }
     ensures { result ≡ word burst.now i }
 {
-    byte_at(burst, i) as u16 + 256 * byte_at(burst, i + 1) as u16
+    u16::from_le_bytes([byte_at(burst, i), byte_at(burst, i + 1)])
 }
 
 impl<'a> Telegram<'a> {
     // A view over the burst at the telegram that begins at `start` and has this len.
     pub fn new(burst: &'a [u8], start: u16, len: u8) -> Telegram<'a>
-        ensures { (burst_of result ≡ burst.now) × ((result.start ≡ start) × (result.len ≡ len)) }
+        ensures over { burst_of result ≡ burst.now }
+        ensures start { result.start ≡ start }
+        ensures len { result.len ≡ len }
     {
         Telegram { burst, start, len }
     }
 
+    #[tactic(auto, using(crate::proofs::Parts::clamped))]
     fn part(&self, offset: usize, count: usize) -> Part<'a>
-        requires { (offset < 2 ^ 16) × (count < 2 ^ 16) }
+        requires offset { offset < 2 ^ 16 }
+        requires count { count < 2 ^ 16 }
         ensures { IsPart (burst_of self.now) (self.now.start + offset) count result }
     {
         let burst = self.burst;
-        let position = self.start as usize + offset;
+        let position = usize::from(self.start) + offset;
         let from = position.min(burst.len());
         let to = (position + count).min(burst.len());
         Part {
@@ -80,14 +84,14 @@ impl<'a> Telegram<'a> {
     pub fn position(&self) -> usize
         ensures { result ≡ self.now.start }
     {
-        self.start as usize
+        usize::from(self.start)
     }
 
     // How many bytes it has, SOH to EOT.
     pub fn length(&self) -> usize
         ensures { result ≡ 12 + self.now.len }
     {
-        12 + self.len as usize
+        12 + usize::from(self.len)
     }
 
     pub fn version(&self) -> Part<'a>
@@ -123,20 +127,20 @@ impl<'a> Telegram<'a> {
     pub fn payload(&self) -> Part<'a>
         ensures { IsPart (burst_of self.now) (self.now.start + 10) (self.now.len - 2) result }
     {
-        self.part(10, (self.len as usize).saturating_sub(2))
+        self.part(10, usize::from(self.len).saturating_sub(2))
     }
 
     pub fn checksum(&self) -> Part<'a>
         ensures { IsPart (burst_of self.now) (self.now.start + (9 + self.now.len)) (2) result }
     {
-        self.part((9 + self.len as usize), 2)
+        self.part(9 + usize::from(self.len), 2)
     }
 
     // The values of the fields.
     pub fn fields(&self) -> Fields<'a>
         ensures { frame result ≡ frame_of (burst_of self.now) self.now.start self.now.len }
     {
-        let p = self.start as usize;
+        let p = usize::from(self.start);
         Fields {
             version: byte_at(self.burst, p + 1),
             receiver: Address(word_at(self.burst, p + 2)),

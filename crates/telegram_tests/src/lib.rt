@@ -7,26 +7,19 @@ mod tests {
     use address::Address;
     use burst::{ReadFault, find, read, relay};
     use checksum::crc;
+    use refusals::Refusal;
     use std::test::Fail;
     use telegram::{Fields, write};
 
     // The number that reading a burst is refused with, or 0 where a telegram stands in it.
     fn fault_of(burst: &[u8]) -> u8 {
-        match read(burst) {
-            Ok(_) => 0,
-            Err(fault) => fault.number(),
-        }
+        read(burst).map_or_else(|fault| fault.number(), |_| 0)
     }
 
     // The position of the fault, or none where there is no fault or it has none.
     fn place_of(burst: &[u8]) -> Option<usize> {
-        match read(burst) {
-            Ok(_) => None,
-            Err(fault) => match fault.place() {
-                Some(place) => Some(place.position),
-                None => None,
-            },
-        }
+        let place = read(burst).err()?.place()?;
+        Some(place.position)
     }
 
     // The length that a telegram with this payload is written in, or the number of the refusal.
@@ -39,10 +32,7 @@ mod tests {
             command_version: 0x10,
             payload,
         };
-        match write(&fields, buffer) {
-            Ok(n) => Ok(n),
-            Err(refusal) => Err(refusal.number()),
-        }
+        write(&fields, buffer).map_err(|refusal| refusal.number())
     }
 
     #[test]

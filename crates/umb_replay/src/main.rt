@@ -3,7 +3,7 @@
 
 mod meaning;
 mod parse;
-mod refusals;
+mod refused;
 mod run;
 mod script;
 mod statement;
@@ -19,10 +19,8 @@ use std::fs::File;
 use std::io::BufReader;
 
 fn script_in(rt: &HostRuntime, path: &str) -> anyhow::Result<Script> {
-    match File::open(rt, path) {
-        Ok(file) => read(rt.alloc(), BufReader::new(rt.alloc(), file)?),
-        Err(cause) => Err(anyhow!("cannot read {path}: {cause}")),
-    }
+    let file = File::open(rt, path).map_err(|cause| anyhow!("cannot read {path}: {cause}"))?;
+    read(rt.alloc(), BufReader::new(rt.alloc(), file)?)
 }
 
 // Tells whether a script can be read, and what is wrong with it if not.
@@ -44,15 +42,13 @@ fn run_file(rt: &HostRuntime, path: &str, one_of_several: bool) -> anyhow::Resul
 
 // Carries out the scripts that are named, and only reads those behind `--check`.
 fn run_named(rt: &HostRuntime, names: &[String]) -> anyhow::Result<()> {
-    let mut only_read = false;
-    for name in names {
-        let path = name.as_str();
-        if path == "--check" {
-            only_read = true;
-        } else if only_read {
-            check(rt, path)?;
-        } else {
-            run_file(rt, path, names.len() > 1)?;
+    let mut groups = names.split(|name| name.as_str() == "--check");
+    for name in groups.next().unwrap_or(&[]) {
+        run_file(rt, name.as_str(), names.len() > 1)?;
+    }
+    for group in groups {
+        for name in group {
+            check(rt, name.as_str())?;
         }
     }
     Ok(())

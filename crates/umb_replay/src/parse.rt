@@ -1,5 +1,5 @@
 // A line of a script read.
-use crate::statement::{BoardPlan, Deed, Line, Part, Patch, Sample, Size, Statement, USUAL_ROOM};
+use crate::statement::{BoardKind, Deed, Line, Part, Patch, Size, Statement, USUAL_ROOM};
 use crate::values::{read_outcome, read_typed_outcome};
 use crate::words::{Word, Words};
 use crate::wrong::{Item, Place, Reason, Wrong};
@@ -10,6 +10,7 @@ use station::StationLine;
 use std::alloc::Global;
 use table::Record;
 
+// The limits of docs/SCRIPTS.md on a reply buffer and on the memory.
 const MOST_ROOM: u64 = 65_536;
 
 const MOST_MEMORY: u64 = 16_777_216;
@@ -30,26 +31,22 @@ fn read_hex(heap: Global, word: Word<'_>) -> Result<Vec<u8>, Wrong> {
 }
 
 fn read_station(words: &mut Words<'_>) -> Result<Part, Wrong> {
-    let address = words.number(Item::Address, 0xffff)?;
-    let first = words.number(Item::WindowPlace, 0xffff_ffff)?;
-    let size = words.number(Item::WindowSize, 0xffff_ffff)?;
-    let protected = words.number(Item::Protected, 0xffff_ffff)?;
     Ok(Part::Station(StationLine {
-        address: Address(address as u16),
-        first: first as u32,
-        size: size as u32,
-        protected: protected as u32,
+        address: Address(words.number(Item::Address)?),
+        first: words.number(Item::WindowPlace)?,
+        size: words.number(Item::WindowSize)?,
+        protected: words.number(Item::Protected)?,
     }))
 }
 
 fn read_memory(words: &mut Words<'_>) -> Result<Part, Wrong> {
-    let length = words.number(Item::MemoryLength, MOST_MEMORY)?;
-    Ok(Part::Memory(length as usize))
+    let length = words.number_up_to(Item::MemoryLength, MOST_MEMORY)?;
+    Ok(Part::Memory(length))
 }
 
 fn read_bytes(heap: Global, words: &mut Words<'_>) -> Result<Part, Wrong> {
     let word = words.need(Item::Position)?;
-    let first = word.number(Item::Position, MOST_MEMORY)?;
+    let first = word.number_up_to(Item::Position, MOST_MEMORY)?;
     let behind = words.place();
     let bytes = read_hex(heap, words.take_rest())?;
     if bytes.is_empty() {
@@ -57,7 +54,7 @@ fn read_bytes(heap: Global, words: &mut Words<'_>) -> Result<Part, Wrong> {
     }
     Ok(Part::Bytes(Patch {
         place: word.place,
-        first: first as usize,
+        first,
         bytes,
     }))
 }
@@ -65,95 +62,68 @@ fn read_bytes(heap: Global, words: &mut Words<'_>) -> Result<Part, Wrong> {
 fn read_board(words: &mut Words<'_>) -> Result<Part, Wrong> {
     let word = words.need(Item::Board)?;
     match word.text {
-        b"table" => Ok(Part::Board(BoardPlan::Table)),
-        b"statistics" => {
-            let slots = words.number(Item::SlotCount, u64::MAX)?;
-            let window = words.number(Item::WindowLength, u64::MAX)?;
-            Ok(Part::Board(BoardPlan::Statistics(Size {
-                slots: slots as usize,
-                window: window as usize,
-            })))
-        }
+        b"table" => Ok(Part::Board(BoardKind::Table)),
+        b"statistics" => Ok(Part::Board(BoardKind::Statistics(Size {
+            slots: words.number(Item::SlotCount)?,
+            window: words.number(Item::WindowLength)?,
+        }))),
         _ => Err(word.wrong(Reason::NoBoard)),
     }
 }
 
 fn read_record(words: &mut Words<'_>) -> Result<Part, Wrong> {
-    let slot = words.number(Item::Slot, 255)?;
-    let channel = words.number(Item::Channel, 0xffff)?;
+    let slot = words.number(Item::Slot)?;
+    let channel = words.number(Item::Channel)?;
     let (kind, outcome) = read_typed_outcome(words)?;
     Ok(Part::Record(Record {
-        slot: slot as u8,
-        channel: channel as u16,
+        slot,
+        channel,
         kind,
         outcome,
     }))
 }
 
 fn read_sample(words: &mut Words<'_>) -> Result<Part, Wrong> {
-    let line = words.place().line;
-    let slot = words.number(Item::Slot, u64::MAX)?;
+    let slot = words.number(Item::Slot)?;
     let word = words.need(Item::Value)?;
-    let Ok(value) = i32::try_from(word.whole()?) else {
-        return Err(word.wrong(Reason::Unfit));
-    };
-    Ok(Part::Sample(Sample {
-        line,
-        slot: slot as usize,
-        value,
-    }))
+    let value = i32::try_from(word.whole()?).map_err(|_| word.wrong(Reason::Unfit))?;
+    Ok(Part::Sample { slot, value })
 }
 
 fn read_put(words: &mut Words<'_>) -> Result<Deed, Wrong> {
-    let slot = words.number(Item::Slot, u64::MAX)?;
-    let channel = words.number(Item::Channel, 0xffff)?;
     Ok(Deed::Call(Call::Put {
-        slot: slot as usize,
-        channel: channel as u16,
+        slot: words.number(Item::Slot)?,
+        channel: words.number(Item::Channel)?,
         outcome: read_outcome(words)?,
     }))
 }
 
 fn read_condition(words: &mut Words<'_>) -> Result<Deed, Wrong> {
-    let slot = words.number(Item::Slot, u64::MAX)?;
-    let code = words.number(Item::Code, 255)?;
     Ok(Deed::Call(Call::Condition {
-        slot: slot as usize,
-        code: code as u8,
+        slot: words.number(Item::Slot)?,
+        code: words.number(Item::Code)?,
     }))
 }
 
 fn read_tick(words: &mut Words<'_>) -> Result<Deed, Wrong> {
-    let seconds = words.number(Item::Seconds, 0xffff_ffff)?;
-    Ok(Deed::Call(Call::Tick {
-        seconds: seconds as u32,
-    }))
+    let seconds = words.number(Item::Seconds)?;
+    Ok(Deed::Call(Call::Tick { seconds }))
 }
 
 fn read_show(words: &mut Words<'_>) -> Result<Deed, Wrong> {
-    let slot = words.number(Item::Slot, u64::MAX)?;
-    Ok(Deed::Show(slot as usize))
-}
-
-fn colon(text: &[u8]) -> Option<usize> {
-    for (i, byte) in text.iter().enumerate() {
-        if *byte == b':' {
-            return Some(i);
-        }
-    }
-    None
+    Ok(Deed::Show(words.number(Item::Slot)?))
 }
 
 // The room of the reply buffer, and the hex behind it.
 fn read_room<'a>(rest: Word<'a>) -> Result<(usize, Word<'a>), Wrong> {
-    let Some(length) = colon(rest.text) else {
+    let Some(length) = rest.text.iter().position(|&byte| byte == b':') else {
         return Ok((USUAL_ROOM, rest));
     };
     let (front, behind) = rest.split(length);
     let mut words = Words::of(front);
-    let room = words.number(Item::Room, MOST_ROOM)?;
+    let room = words.number_up_to(Item::Room, MOST_ROOM)?;
     words.end()?;
-    Ok((room as usize, behind.split(1).1))
+    Ok((room, behind.split(1).1))
 }
 
 fn read_burst(heap: Global, words: &mut Words<'_>) -> Result<Deed, Wrong> {

@@ -1,18 +1,20 @@
 // A script that is carried out.
-use crate::refusals::Refusal;
-use crate::script::{Action, Cabinet, Calls, Script};
-use crate::statement::{BoardPlan, Sample, Size};
+use crate::refused::Refused;
+use crate::script::{BoardPlan, Sample, Scenario, Script, Step};
+use crate::statement::{Deed, Size, USUAL_ROOM};
 use crate::tell::{Count, Event, Hex};
 use anyhow::anyhow;
 use board::Board;
 use head::{Head, LineRecord};
 use readings::{Outcome, Reading};
-use runs::{Entry, Told, replay};
+use refusals::Refusal;
+use runs::{Entry, replay};
 use shares::Shares;
-use station::StationLine;
 use statistics::{MOST_SAMPLES, MOST_SLOTS, Statistics};
+use std::alloc::{AllocError, Global};
 use table::{Record, Table};
 
+// The channel by which a statistics board takes a sample.
 const SAMPLE_CHANNEL: u16 = 100;
 
 // A head with all that its calls are brought.
@@ -25,43 +27,35 @@ struct Session<B> {
     buffer: Vec<u8>,
 }
 
-// The calls between two shows, with the lines that they stand on.
-#[derive(Drop)]
-struct Stretch {
-    lines: Vec<u64>,
-    entries: Vec<Entry>,
+// The calls of some steps, none of them made yet.
+fn entries<'a>(heap: Global, steps: &'a [Step]) -> Result<Vec<Entry<'a>>, AllocError> {
+    steps
+        .iter()
+        .filter_map(|step| step.deed.call())
+        .map(|call| Entry { call, told: None })
+        .collect(heap)
 }
 
 impl<B: Shares> Session<B> {
-    // Makes the calls of a stretch and tells what came of each.
-    fn run(
-        &mut self,
-        rt: &HostRuntime,
-        traffic: &[u8],
-        stretch: &mut Stretch,
-    ) -> anyhow::Result<()> {
-        let list = stretch.entries.as_mut_slice();
-        let memory = self.memory.as_mut_slice();
-        let buffer = self.buffer.as_mut_slice();
+    // Makes the calls of some steps and tells what came of each. Only the last step may be a show.
+    fn make(&mut self, rt: &HostRuntime, steps: &[Step]) -> anyhow::Result<()> {
+        let mut entries = entries(rt.alloc(), steps)?;
         let ran = replay(
             &mut self.head,
             &mut self.board,
-            memory,
+            self.memory.as_mut_slice(),
             &mut self.line,
-            traffic,
-            buffer,
-            list,
+            self.buffer.as_mut_slice(),
+            entries.as_mut_slice(),
         );
-        if let Err(refusal) = ran {
-            let number = refusal.number();
-            return Err(anyhow!(format!(in rt.alloc(); "the calls are refused, number {number}")?));
-        }
-        for (line, entry) in stretch.lines.iter().zip(stretch.entries.iter()) {
-            let event = Event { line: *line, entry };
+        ran.map_err(|refusal| anyhow!("the calls are refused, number {}", refusal.number()))?;
+        for (step, entry) in steps.iter().zip(entries.iter()) {
+            let event = Event {
+                line: step.line,
+                entry,
+            };
             println!(rt; "{event}")?;
         }
-        stretch.lines.clear();
-        stretch.entries.clear();
         Ok(())
     }
 
@@ -93,75 +87,96 @@ impl<B: Shares> Session<B> {
         Ok(())
     }
 
-    fn run_all(&mut self, rt: &HostRuntime, calls: &Calls) -> anyhow::Result<()> {
-        let traffic = calls.traffic.as_slice();
-        let mut stretch = Stretch {
-            lines: Vec::new(rt.alloc()),
-            entries: Vec::new(rt.alloc()),
-        };
-        for step in calls.steps.iter() {
-            match step.action {
-                Action::Make(call) => {
-                    let told = Told::Waiting;
-                    stretch.lines.push(step.line)?;
-                    stretch.entries.push(Entry { call, told })?;
-                }
-                Action::Show(slot) => {
-                    self.run(rt, traffic, &mut stretch)?;
-                    self.show(rt, step.line, slot)?;
-                }
+    // Makes the calls between two shows together.
+    fn run(&mut self, rt: &HostRuntime, steps: &[Step]) -> anyhow::Result<()> {
+        for stretch in steps.split_inclusive(|step| matches!(step.deed, Deed::Show(_))) {
+            self.make(rt, stretch)?;
+            if let Some(
+                Step {
+                    line,
+                    deed: Deed::Show(slot),
+                },
+            ) = stretch.last()
+            {
+                self.show(rt, *line, *slot)?;
             }
         }
-        self.run(rt, traffic, &mut stretch)
+        Ok(())
     }
 }
 
-// Starts a head over the board, and makes the calls.
-fn run_on<B: Shares + Drop>(
+// What was made, or nothing where it is refused, which is then told.
+fn accepted<T: Drop, R: Refusal + Drop>(
     rt: &HostRuntime,
-    board: B,
-    stations: &[StationLine],
-    memory: Vec<u8>,
-    calls: &Calls,
-) -> anyhow::Result<()> {
-    let length = memory.len();
-    let head = match Head::start(stations, length, &board) {
-        Ok(head) => head,
+    what: &str,
+    made: Result<T, R>,
+) -> anyhow::Result<Option<T>> {
+    match made {
+        Ok(made) => Ok(Some(made)),
         Err(refusal) => {
-            println!(rt; "start: {}", Refusal::of_start(refusal))?;
-            return Ok(());
+            println!(rt; "{what}: {}", Refused(refusal))?;
+            Ok(None)
         }
-    };
-    let count = Count(head.count(), "station");
-    let size = Count(length, "byte");
-    println!(rt; "start: {count}, memory of {size}")?;
-    let mut session = Session {
-        head,
-        board,
-        memory,
-        line: LineRecord::new(),
-        buffer: vec![in rt.alloc(); 0u8; calls.room]?,
-    };
-    session.run_all(rt, calls)
+    }
 }
 
-fn run_on_table(
-    rt: &HostRuntime,
-    mut records: Vec<Record>,
-    stations: &[StationLine],
-    memory: Vec<u8>,
-    calls: &Calls,
-) -> anyhow::Result<()> {
-    let count = Count(records.len(), "record");
-    match Table::new(records.as_mut_slice()) {
-        Ok(table) => {
-            println!(rt; "board: table, {count}")?;
-            run_on(rt, table, stations, memory, calls)
-        }
-        Err(refusal) => {
-            println!(rt; "board: {}", Refusal::of_table(refusal))?;
-            Ok(())
-        }
+impl Scenario {
+    // Starts a head over the board, and does what the steps say.
+    fn run<B: Shares + Drop>(self, rt: &HostRuntime, board: B) -> anyhow::Result<()> {
+        let Scenario {
+            stations,
+            memory,
+            steps,
+        } = self;
+        let started = Head::start(stations.as_slice(), memory.len(), &board);
+        let Some(head) = accepted(rt, "start", started)? else {
+            return Ok(());
+        };
+        let count = Count(head.count(), "station");
+        let size = Count(memory.len(), "byte");
+        println!(rt; "start: {count}, memory of {size}")?;
+        let room = steps.iter().fold(USUAL_ROOM, |room, step| match step.deed {
+            Deed::Burst { room: asked, .. } => room.max(asked),
+            _ => room,
+        });
+        let mut session = Session {
+            head,
+            board,
+            memory,
+            line: LineRecord::new(),
+            buffer: vec![in rt.alloc(); 0u8; room]?,
+        };
+        session.run(rt, steps.as_slice())
+    }
+
+    fn run_on_table(self, rt: &HostRuntime, mut records: Vec<Record>) -> anyhow::Result<()> {
+        let count = Count(records.len(), "record");
+        let made = Table::new(records.as_mut_slice());
+        let Some(table) = accepted(rt, "board", made)? else {
+            return Ok(());
+        };
+        println!(rt; "board: table, {count}")?;
+        self.run(rt, table)
+    }
+
+    fn run_on_statistics(
+        self,
+        rt: &HostRuntime,
+        size: Size,
+        samples: &[Sample],
+    ) -> anyhow::Result<()> {
+        let Size { slots, window } = size;
+        let room = slots.min(MOST_SLOTS) * window.min(MOST_SAMPLES);
+        let mut items = vec![in rt.alloc(); 0i32; room]?;
+        let made = Statistics::new(items.as_mut_slice(), slots, window);
+        let Some(mut board) = accepted(rt, "board", made)? else {
+            return Ok(());
+        };
+        let slots = Count(slots, "slot");
+        let kept = Count(window, "sample");
+        println!(rt; "board: statistics, {slots} of {kept}")?;
+        put_samples(rt, &mut board, samples)?;
+        self.run(rt, board)
     }
 }
 
@@ -171,58 +186,24 @@ fn put_samples(
     samples: &[Sample],
 ) -> anyhow::Result<()> {
     for sample in samples {
-        let line = sample.line;
+        let line = sample.place.line;
         let slot = sample.slot;
         let outcome = Outcome::Value(Reading::I32(sample.value));
         if let Err(refusal) = board.put(slot, SAMPLE_CHANNEL, outcome) {
-            let refusal = Refusal::of_sample(refusal);
-            println!(rt; "line {line}: sample for slot {slot}: {refusal}")?;
+            let refused = Refused(refusal);
+            println!(rt; "line {line}: sample for slot {slot}: {refused}")?;
         }
     }
     Ok(())
 }
 
-fn run_on_statistics(
-    rt: &HostRuntime,
-    size: Size,
-    samples: &[Sample],
-    stations: &[StationLine],
-    memory: Vec<u8>,
-    calls: &Calls,
-) -> anyhow::Result<()> {
-    let Size { slots, window } = size;
-    let room = slots.min(MOST_SLOTS) * window.min(MOST_SAMPLES);
-    let mut items = vec![in rt.alloc(); 0i32; room]?;
-    match Statistics::new(items.as_mut_slice(), slots, window) {
-        Ok(mut board) => {
-            let slots = Count(slots, "slot");
-            let kept = Count(window, "sample");
-            println!(rt; "board: statistics, {slots} of {kept}")?;
-            put_samples(rt, &mut board, samples)?;
-            run_on(rt, board, stations, memory, calls)
-        }
-        Err(refusal) => {
-            println!(rt; "board: {}", Refusal::of_statistics(refusal))?;
-            Ok(())
-        }
-    }
-}
-
 // Carries a script out.
 pub(crate) fn run(rt: &HostRuntime, script: Script) -> anyhow::Result<()> {
-    let Script { cabinet, calls } = script;
-    let Cabinet {
-        stations,
-        memory,
-        board,
-        records,
-        samples,
-    } = cabinet;
+    let Script { board, scenario } = script;
     match board {
-        BoardPlan::Table => run_on_table(rt, records, stations.as_slice(), memory, &calls),
-        BoardPlan::Statistics(size) => {
-            let samples = samples.as_slice();
-            run_on_statistics(rt, size, samples, stations.as_slice(), memory, &calls)
+        BoardPlan::Table(records) => scenario.run_on_table(rt, records),
+        BoardPlan::Statistics(size, samples) => {
+            scenario.run_on_statistics(rt, size, samples.as_slice())
         }
     }
 }

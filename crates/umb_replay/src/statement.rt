@@ -3,9 +3,10 @@ use crate::wrong::Place;
 use runs::Call;
 use station::StationLine;
 use table::Record;
+use telegram::LONGEST_TELEGRAM;
 
 // The reply buffer of a burst that names none.
-pub(crate) const USUAL_ROOM: usize = 224;
+pub(crate) const USUAL_ROOM: usize = LONGEST_TELEGRAM;
 
 // How many slots a statistics board has, and how many samples each of them keeps.
 #[derive(Clone, Copy)]
@@ -15,17 +16,9 @@ pub(crate) struct Size {
 }
 
 #[derive(Clone, Copy)]
-pub(crate) enum BoardPlan {
+pub(crate) enum BoardKind {
     Table,
     Statistics(Size),
-}
-
-// A sample that a board holds before the start.
-#[derive(Clone, Copy)]
-pub(crate) struct Sample {
-    pub(crate) line: u64,
-    pub(crate) slot: usize,
-    pub(crate) value: i32,
 }
 
 // Bytes that lie in the memory from `first` on, which is said at `place`.
@@ -42,17 +35,31 @@ pub(crate) enum Part {
     Station(StationLine),
     Memory(usize),
     Bytes(Patch),
-    Board(BoardPlan),
+    Board(BoardKind),
     Record(Record),
-    Sample(Sample),
+    Sample { slot: usize, value: i32 },
 }
 
-// What is done behind it.
+// What is done behind it. A burst owns its bytes.
 #[derive(Drop)]
 pub(crate) enum Deed {
     Burst { room: usize, bytes: Vec<u8> },
-    Call(Call),
+    Call(Call<'static>),
     Show(usize),
+}
+
+impl Deed {
+    // The call that is made, None where there is none.
+    pub(crate) fn call(&self) -> Option<Call<'_>> {
+        match self {
+            Deed::Burst { room, bytes } => Some(Call::Burst {
+                bytes: bytes.as_slice(),
+                room: *room,
+            }),
+            Deed::Call(call) => Some(*call),
+            Deed::Show(_) => None,
+        }
+    }
 }
 
 #[derive(Drop)]

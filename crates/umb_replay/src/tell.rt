@@ -1,7 +1,7 @@
 // What came of the calls, in words.
 use crate::meaning::Meaning;
-use crate::refusals::Refusal;
-use runs::{Call, Entry, Reply, Told};
+use crate::refused::Refused;
+use runs::{Call, Drawn, Entry, Reply};
 use std::fmt;
 
 // How many of something there are.
@@ -10,8 +10,7 @@ pub(crate) struct Count(pub(crate) usize, pub(crate) &'static str);
 
 impl fmt::Display for Count {
     fn fmt<W: fmt::Write>(&self, f: &mut fmt::Formatter<W>) -> fmt::Result {
-        let count = self.0;
-        let noun = self.1;
+        let Count(count, noun) = *self;
         let ending = if count == 1 { "" } else { "s" };
         write!(f, "{count} {noun}{ending}")
     }
@@ -30,51 +29,56 @@ impl fmt::Display for Hex<'_> {
     }
 }
 
-fn tell_call<W: fmt::Write>(f: &mut fmt::Formatter<W>, call: Call) -> fmt::Result {
-    match call {
-        Call::Burst { length, .. } => {
-            let count = Count(length, "byte");
-            write!(f, "burst of {count}")
+// Which call was made.
+#[derive(Clone, Copy)]
+struct Made<'a>(Call<'a>);
+
+impl fmt::Display for Made<'_> {
+    fn fmt<W: fmt::Write>(&self, f: &mut fmt::Formatter<W>) -> fmt::Result {
+        match self.0 {
+            Call::Burst { bytes, .. } => {
+                let count = Count(bytes.len(), "byte");
+                write!(f, "burst of {count}")
+            }
+            Call::Put { slot, channel, .. } => write!(f, "put on slot {slot}, channel {channel}"),
+            Call::Condition { slot, .. } => write!(f, "condition of slot {slot}"),
+            Call::Tick { seconds } => write!(f, "tick of {seconds} s"),
         }
-        Call::Put { slot, channel, .. } => write!(f, "put on slot {slot}, channel {channel}"),
-        Call::Condition { slot, .. } => write!(f, "condition of slot {slot}"),
-        Call::Tick { seconds } => write!(f, "tick of {seconds} s"),
     }
 }
 
-fn tell_reply<W: fmt::Write>(f: &mut fmt::Formatter<W>, reply: &Reply) -> fmt::Result {
-    let slot = reply.slot;
-    let count = Count(reply.length, "byte");
-    write!(f, "reply of slot {slot}, {count}")?;
-    if let Some(bytes) = reply.bytes.get(0..reply.length) {
+// A reply with its bytes and what they mean.
+#[derive(Clone, Copy)]
+struct Answer<'a>(&'a Reply);
+
+impl fmt::Display for Answer<'_> {
+    fn fmt<W: fmt::Write>(&self, f: &mut fmt::Formatter<W>) -> fmt::Result {
+        let slot = self.0.slot;
+        let bytes = self.0.bytes.as_slice();
+        let count = Count(bytes.len(), "byte");
         let hex = Hex(bytes);
         let meaning = Meaning(bytes);
-        write!(f, "\n {hex}\n  {meaning}")?;
+        write!(f, "reply of slot {slot}, {count}\n {hex}\n  {meaning}")
     }
-    Ok(())
 }
 
 // A call that stands on a line of the script, and what came of it.
 #[derive(Clone, Copy)]
 pub(crate) struct Event<'a> {
     pub(crate) line: u64,
-    pub(crate) entry: &'a Entry,
+    pub(crate) entry: &'a Entry<'a>,
 }
 
 impl fmt::Display for Event<'_> {
     fn fmt<W: fmt::Write>(&self, f: &mut fmt::Formatter<W>) -> fmt::Result {
-        let line = self.line;
-        write!(f, "line {line}: ")?;
-        tell_call(f, self.entry.call)?;
-        write!(f, ": ")?;
-        match &self.entry.told {
-            Told::Waiting => write!(f, "not made"),
-            Told::Silence => write!(f, "silence"),
-            Told::Replied(reply) => tell_reply(f, reply),
-            Told::Done => write!(f, "done"),
-            Told::BurstRefused(fault) => write!(f, "{}", Refusal::of_burst(*fault)),
-            Told::PutRefused(fault) => write!(f, "{}", Refusal::of_put(*fault)),
-            Told::ConditionRefused(fault) => write!(f, "{}", Refusal::of_condition(*fault)),
+        let Event { line, entry } = *self;
+        write!(f, "line {line}: {}: ", Made(entry.call))?;
+        match &entry.told {
+            None => f.write_str("not made"),
+            Some(Ok(Drawn::Silence)) => f.write_str("silence"),
+            Some(Ok(Drawn::Replied(reply))) => write!(f, "{}", Answer(reply)),
+            Some(Ok(Drawn::Done)) => f.write_str("done"),
+            Some(Err(fault)) => write!(f, "{}", Refused(*fault)),
         }
     }
 }

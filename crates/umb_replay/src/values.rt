@@ -2,10 +2,11 @@
 ghost use Rattle.std.specs.Prelude.{◌≡◌, IfSome};
 ghost use Rattle.readings.specs.Values.{kind_of, number};
 
-use crate::words::{Word, Words};
+use crate::words::{Number, Word, Words};
 use crate::wrong::{Item, Reason, Wrong};
-use readings::{Fault, Kind, Outcome, Reading};
-use std::str::from_utf8;
+use readings::{Fault, Ieee, Kind, Outcome, Reading};
+use std::num::ParseFloatError;
+use std::str::{FromStr, from_utf8};
 
 fn kind_named(text: &[u8]) -> Option<Kind> {
     match text {
@@ -23,7 +24,8 @@ fn kind_named(text: &[u8]) -> Option<Kind> {
 
 // The value of an integer type, None where it does not fit.
 fn integer(kind: Kind, value: i64) -> Option<Reading>
-    ensures { IfSome result (λ v. (kind_of v ≡ kind) × (number v ≡ value)) }
+    ensures kind { IfSome result (λ v. kind_of v ≡ kind) }
+    ensures value { IfSome result (λ v. number v ≡ value) }
 {
     Some(match kind {
         Kind::U8 => Reading::U8(u8::try_from(value).ok()?),
@@ -40,79 +42,58 @@ fn is_special(text: &str) -> bool {
     matches!(text, "inf" | "-inf" | "nan")
 }
 
+// Whether a byte may stand in a decimal number.
+fn is_of_float(byte: u8) -> bool {
+    matches!(byte, b'0'..=b'9' | b'.' | b'-' | b'+' | b'e')
+}
+
 // The text of a float. Only what the format names: the library reads more, as "+1" and "Infinity".
 fn float_text<'a>(word: Word<'a>) -> Result<&'a str, Wrong> {
-    let Ok(text) = from_utf8(word.text) else {
-        return Err(word.wrong(Reason::NoFloat));
-    };
-    if is_special(text) {
-        return Ok(text);
+    let no_float = word.wrong(Reason::NoFloat);
+    let text = from_utf8(word.text).map_err(|_| no_float)?;
+    let is_decimal = !text.starts_with("+") && text.bytes().all(is_of_float);
+    if is_special(text) || is_decimal {
+        Ok(text)
+    } else {
+        Err(no_float)
     }
-    if text.starts_with("+") {
-        return Err(word.wrong(Reason::NoFloat));
-    }
-    for byte in word.text {
-        if !matches!(*byte, b'0'..=b'9' | b'.' | b'-' | b'+' | b'e') {
-            return Err(word.wrong(Reason::NoFloat));
-        }
-    }
-    Ok(text)
 }
 
-fn single(word: Word<'_>) -> Result<Outcome, Wrong> {
-    let text = float_text(word)?;
-    let Ok(x) = text.parse::<f32>() else {
-        return Err(word.wrong(Reason::NoFloat));
-    };
-    if x.is_infinite() && !is_special(text) {
-        return Err(word.wrong(Reason::Unfit));
+// A value of a float type whose first word is `first`: a decimal number, or the bits.
+fn read_float<F>(first: Word<'_>, words: &mut Words<'_>) -> Result<Outcome, Wrong>
+where
+    F: Ieee + FromStr<Err = ParseFloatError> + Into<f64>,
+    F::Bits: Number,
+{
+    if matches!(first.text, b"bits") {
+        return Ok(Outcome::from_float_bits::<F>(words.number(Item::Bits)?));
     }
-    Ok(Outcome::from_f32(x))
-}
-
-fn double(word: Word<'_>) -> Result<Outcome, Wrong> {
-    let text = float_text(word)?;
-    let Ok(x) = text.parse::<f64>() else {
-        return Err(word.wrong(Reason::NoFloat));
-    };
-    if x.is_infinite() && !is_special(text) {
-        return Err(word.wrong(Reason::Unfit));
+    let text = float_text(first)?;
+    let x: F = text.parse().map_err(|_| first.wrong(Reason::NoFloat))?;
+    let wide: f64 = x.into();
+    if wide.is_infinite() && !is_special(text) {
+        return Err(first.wrong(Reason::Unfit));
     }
-    Ok(Outcome::from_f64(x))
+    Ok(Outcome::from_float(x))
 }
 
 // A value of this type whose first word is `first`.
 fn read_value(kind: Kind, first: Word<'_>, words: &mut Words<'_>) -> Result<Outcome, Wrong> {
-    let by_bits = matches!(first.text, b"bits");
     match kind {
-        Kind::F32 => {
-            if by_bits {
-                let bits = words.number(Item::Bits, 0xffff_ffff)?;
-                return Ok(Outcome::from_f32_bits(bits as u32));
-            }
-            single(first)
+        Kind::F32 => read_float::<f32>(first, words),
+        Kind::F64 => read_float::<f64>(first, words),
+        _ => {
+            let reading = integer(kind, first.whole()?).ok_or(first.wrong(Reason::Unfit))?;
+            Ok(Outcome::Value(reading))
         }
-        Kind::F64 => {
-            if by_bits {
-                let bits = words.number(Item::Bits, u64::MAX)?;
-                return Ok(Outcome::from_f64_bits(bits));
-            }
-            double(first)
-        }
-        _ => match integer(kind, first.whole()?) {
-            Some(reading) => Ok(Outcome::Value(reading)),
-            None => Err(first.wrong(Reason::Unfit)),
-        },
     }
 }
 
 fn read_fault(words: &mut Words<'_>) -> Result<Outcome, Wrong> {
     let word = words.need(Item::FaultCode)?;
-    let code = word.number(Item::FaultCode, 255)?;
-    match Fault::from_code(code as u8) {
-        Some(fault) => Ok(Outcome::Fault(fault)),
-        None => Err(word.wrong(Reason::NoFault)),
-    }
+    let code: u8 = word.number(Item::FaultCode)?;
+    let fault = Fault::try_from(code).map_err(|_| word.wrong(Reason::NoFault))?;
+    Ok(Outcome::Fault(fault))
 }
 
 pub(crate) fn read_outcome(words: &mut Words<'_>) -> Result<Outcome, Wrong> {
@@ -120,9 +101,7 @@ pub(crate) fn read_outcome(words: &mut Words<'_>) -> Result<Outcome, Wrong> {
     if matches!(first.text, b"fault") {
         return read_fault(words);
     }
-    let Some(kind) = kind_named(first.text) else {
-        return Err(first.wrong(Reason::NoOutcome));
-    };
+    let kind = kind_named(first.text).ok_or(first.wrong(Reason::NoOutcome))?;
     let word = words.need(Item::Value)?;
     read_value(kind, word, words)
 }
@@ -130,9 +109,7 @@ pub(crate) fn read_outcome(words: &mut Words<'_>) -> Result<Outcome, Wrong> {
 // A type, and an outcome that may leave its own type out where it is this one.
 pub(crate) fn read_typed_outcome(words: &mut Words<'_>) -> Result<(Kind, Outcome), Wrong> {
     let word = words.need(Item::Type)?;
-    let Some(kind) = kind_named(word.text) else {
-        return Err(word.wrong(Reason::NoType));
-    };
+    let kind = kind_named(word.text).ok_or(word.wrong(Reason::NoType))?;
     let mut ahead = *words;
     let first = ahead.need(Item::Outcome)?;
     if matches!(first.text, b"fault") || kind_named(first.text).is_some() {

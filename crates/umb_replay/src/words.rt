@@ -3,7 +3,7 @@ ghost use Rattle.std.specs.Prelude.{◌≡◌, ◌≤◌, min, length, take, dro
 ghost use Rattle.std.specs.Str.Parse.{IsNumeral, without_leading_plus, digits_value};
 
 use crate::wrong::{Item, Place, Reason, Wrong};
-use std::num::IntErrorKind;
+use std::num::{IntErrorKind, TryFromIntError};
 use std::str::from_utf8;
 
 // Some bytes of a line, mostly a word, and where they begin.
@@ -20,40 +20,7 @@ pub(crate) struct Words<'a> {
 }
 
 fn is_blank(byte: u8) -> bool {
-    byte == b' ' || byte == b'\t' || byte == b'\r'
-}
-
-// How many of the leading bytes are blank.
-fn blanks(text: &[u8]) -> usize
-    ensures { result ≤ length text.now }
-{
-    for (i, byte) in text.iter().enumerate() {
-        if !is_blank(*byte) {
-            return i;
-        }
-    }
-    text.len()
-}
-
-// How many of the leading bytes belong to a word.
-fn letters(text: &[u8]) -> usize
-    ensures { result ≤ length text.now }
-{
-    for (i, byte) in text.iter().enumerate() {
-        if is_blank(*byte) {
-            return i;
-        }
-    }
-    text.len()
-}
-
-fn before_comment(line: &[u8]) -> &[u8] {
-    for (i, byte) in line.iter().enumerate() {
-        if *byte == b'#' {
-            return &line[0..i];
-        }
-    }
-    line
+    matches!(byte, b' ' | b'\t' | b'\r')
 }
 
 impl<'a> Words<'a> {
@@ -74,28 +41,27 @@ impl<'a> Words<'a> {
     }
 
     pub(crate) fn next_word(&mut self) -> Option<Word<'a>> {
-        let skipped = blanks(self.rest.text);
-        if skipped == self.rest.text.len() {
-            return None;
-        }
-        let rest = self.rest.split(skipped).1;
-        let (word, rest) = rest.split(letters(rest.text));
+        let blanks = self.rest.text.iter().position(|&byte| !is_blank(byte))?;
+        let (_, rest) = self.rest.split(blanks);
+        let end = rest.text.iter().position(|&byte| is_blank(byte));
+        let (word, rest) = rest.split(end.unwrap_or(rest.text.len()));
         self.rest = rest;
         Some(word)
     }
 
     pub(crate) fn need(&mut self, item: Item) -> Result<Word<'a>, Wrong> {
-        match self.next_word() {
-            Some(word) => Ok(word),
-            None => Err(self.place().wrong(Reason::Missing(item))),
-        }
+        let missing = self.place().wrong(Reason::Missing(item));
+        self.next_word().ok_or(missing)
     }
 
-    // A number that is at most `most`.
-    pub(crate) fn number(&mut self, item: Item, most: u64) -> Result<u64, Wrong>
-        ensures { IfOk result (λ n. n ≤ most) }
-    {
-        self.need(item)?.number(item, most)
+    // A number of this type.
+    pub(crate) fn number<N: Number>(&mut self, item: Item) -> Result<N, Wrong> {
+        self.number_up_to(item, N::MAX)
+    }
+
+    // A number of this type that is at most `most`.
+    pub(crate) fn number_up_to<N: Number>(&mut self, item: Item, most: u64) -> Result<N, Wrong> {
+        self.need(item)?.number_up_to(item, most)
     }
 
     // Nothing may be left.
@@ -107,6 +73,31 @@ impl<'a> Words<'a> {
     }
 }
 
+// A type of numbers without a sign, as a script gives them, by its largest number.
+pub(crate) trait Number: TryFrom<u64, Error = TryFromIntError> {
+    const MAX: u64;
+}
+
+impl Number for u8 {
+    const MAX: u64 = u8::MAX as u64;
+}
+
+impl Number for u16 {
+    const MAX: u64 = u16::MAX as u64;
+}
+
+impl Number for u32 {
+    const MAX: u64 = u32::MAX as u64;
+}
+
+impl Number for u64 {
+    const MAX: u64 = u64::MAX;
+}
+
+impl Number for usize {
+    const MAX: u64 = usize::MAX as u64;
+}
+
 // Why a word is no number.
 #[derive(Clone, Copy)]
 enum NumberFault {
@@ -115,56 +106,48 @@ enum NumberFault {
 }
 
 fn digits(text: &[u8], radix: u32) -> Result<u64, NumberFault>
-    requires { (2 ≤ radix) × (radix ≤ 36) }
-    ensures { IfOk result (λ n. IsNumeral radix (without_leading_plus text.now) × (n ≡ digits_value radix (without_leading_plus text.now))) }
+    requires low { 2 ≤ radix }
+    requires high { radix ≤ 36 }
+    ensures numeral { IfOk result (λ _. IsNumeral radix (without_leading_plus text.now)) }
+    ensures value { IfOk result (λ n. n ≡ digits_value radix (without_leading_plus text.now)) }
 {
-    if text.first().copied() == Some(b'+') {
+    if text.starts_with(b"+") {
         return Err(NumberFault::NotOne);
     }
     let Ok(text) = from_utf8(text) else {
         return Err(NumberFault::NotOne);
     };
-    match u64::from_str_radix(text, radix) {
-        Ok(number) => Ok(number),
-        Err(error) => match error.kind() {
-            IntErrorKind::PosOverflow => Err(NumberFault::TooLarge),
-            _ => Err(NumberFault::NotOne),
-        },
-    }
+    u64::from_str_radix(text, radix).map_err(|error| match error.kind() {
+        IntErrorKind::PosOverflow => NumberFault::TooLarge,
+        _ => NumberFault::NotOne,
+    })
 }
 
 // Decimal, or hexadecimal with `0x` before it or `h` behind it.
 fn number_of(text: &[u8]) -> Result<u64, NumberFault> {
-    if let Some(hex) = text.strip_prefix(b"0x") {
-        return digits(hex, 16);
+    match text.strip_prefix(b"0x").or(text.strip_suffix(b"h")) {
+        Some(hex) => digits(hex, 16),
+        None => digits(text, 10),
     }
-    if let Some(hex) = text.strip_suffix(b"h") {
-        return digits(hex, 16);
-    }
-    digits(text, 10)
 }
 
 // The same with a `-` before it if it is negative.
 fn whole_of(text: &[u8]) -> Result<i64, NumberFault> {
-    let (size, negative) = match text.strip_prefix(b"-") {
-        Some(digits) => (number_of(digits)?, true),
-        None => (number_of(text)?, false),
-    };
-    match i64::try_from(size) {
-        Ok(value) => Ok(if negative {
-            value.wrapping_neg()
-        } else {
-            value
-        }),
-        Err(_) => Err(NumberFault::TooLarge),
-    }
+    let size = number_of(text.strip_prefix(b"-").unwrap_or(text))?;
+    let value = i64::try_from(size).map_err(|_| NumberFault::TooLarge)?;
+    Ok(if text.starts_with(b"-") {
+        value.wrapping_neg()
+    } else {
+        value
+    })
 }
 
 impl<'a> Word<'a> {
     // A line up to its comment.
     pub(crate) fn line(number: u64, text: &'a [u8]) -> Word<'a> {
+        let comment = text.iter().position(|&byte| byte == b'#');
         Word {
-            text: before_comment(text),
+            text: &text[..comment.unwrap_or(text.len())],
             place: Place {
                 line: number,
                 column: 1,
@@ -194,27 +177,34 @@ impl<'a> Word<'a> {
         self.place.wrong(reason)
     }
 
-    pub(crate) fn number(self, item: Item, most: u64) -> Result<u64, Wrong>
+    // A number of this type.
+    pub(crate) fn number<N: Number>(self, item: Item) -> Result<N, Wrong> {
+        self.number_up_to(item, N::MAX)
+    }
+
+    // A number of this type that is at most `most`.
+    pub(crate) fn number_up_to<N: Number>(self, item: Item, most: u64) -> Result<N, Wrong> {
+        let number = self.at_most(item, most)?;
+        N::try_from(number).map_err(|_| self.wrong(Reason::Above(item, most)))
+    }
+
+    fn at_most(self, item: Item, most: u64) -> Result<u64, Wrong>
         ensures { IfOk result (λ n. n ≤ most) }
     {
         match number_of(self.text) {
-            Ok(number) => {
-                if number > most {
-                    return Err(self.wrong(Reason::Above(item, most)));
-                }
-                Ok(number)
-            }
-            Err(NumberFault::TooLarge) => Err(self.wrong(Reason::Above(item, most))),
+            Ok(number) if number <= most => Ok(number),
+            Ok(_) | Err(NumberFault::TooLarge) => Err(self.wrong(Reason::Above(item, most))),
             Err(NumberFault::NotOne) => Err(self.wrong(Reason::NoNumber(item))),
         }
     }
 
     // The value of an integer type.
     pub(crate) fn whole(self) -> Result<i64, Wrong> {
-        match whole_of(self.text) {
-            Ok(value) => Ok(value),
-            Err(NumberFault::TooLarge) => Err(self.wrong(Reason::Unfit)),
-            Err(NumberFault::NotOne) => Err(self.wrong(Reason::NoNumber(Item::Value))),
-        }
+        whole_of(self.text).map_err(|fault| {
+            self.wrong(match fault {
+                NumberFault::TooLarge => Reason::Unfit,
+                NumberFault::NotOne => Reason::NoNumber(Item::Value),
+            })
+        })
     }
 }

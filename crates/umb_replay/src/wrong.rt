@@ -41,9 +41,9 @@ pub(crate) enum Item {
     Room,
 }
 
-impl Item {
-    fn name(self) -> &'static str {
-        match self {
+impl fmt::Display for Item {
+    fn fmt<W: fmt::Write>(&self, f: &mut fmt::Formatter<W>) -> fmt::Result {
+        f.write_str(match self {
             Item::Address => "address",
             Item::WindowPlace => "window's place",
             Item::WindowSize => "window's size",
@@ -64,7 +64,7 @@ impl Item {
             Item::Code => "code",
             Item::Seconds => "count of seconds",
             Item::Room => "reply buffer's length",
-        }
+        })
     }
 }
 
@@ -95,24 +95,19 @@ pub(crate) enum Reason {
     PastMemory,
 }
 
-fn tell_character<W: fmt::Write>(f: &mut fmt::Formatter<W>, byte: u8) -> fmt::Result {
-    if byte.is_ascii_graphic() {
-        let shown = byte as char;
-        write!(f, "'{shown}' is no hex digit")
-    } else {
-        write!(f, "the byte {byte:02X}h is no hex digit")
-    }
-}
-
 impl fmt::Display for Reason {
     fn fmt<W: fmt::Write>(&self, f: &mut fmt::Formatter<W>) -> fmt::Result {
         match *self {
-            Reason::Missing(item) => write!(f, "the {} is missing", item.name()),
-            Reason::NoNumber(item) => write!(f, "the {} is no number", item.name()),
-            Reason::Above(item, most) => write!(f, "the {} is above {}", item.name(), most),
+            Reason::Missing(item) => write!(f, "the {item} is missing"),
+            Reason::NoNumber(item) => write!(f, "the {item} is no number"),
+            Reason::Above(item, most) => write!(f, "the {item} is above {most}"),
             Reason::NoFloat => write!(f, "the value is no decimal number"),
             Reason::Unfit => write!(f, "the value does not fit its type"),
-            Reason::NoHexDigit(byte) => tell_character(f, byte),
+            Reason::NoHexDigit(byte) if byte.is_ascii_graphic() => {
+                let character = char::from(byte);
+                write!(f, "'{character}' is no hex digit")
+            }
+            Reason::NoHexDigit(byte) => write!(f, "the byte {byte:02X}h is no hex digit"),
             Reason::HalfByte => write!(f, "this hex digit has no second one behind it"),
             Reason::NoStatement => write!(f, "no statement begins so"),
             Reason::NoBoard => write!(f, "a board is 'table' or 'statistics'"),
@@ -155,9 +150,7 @@ impl<T: Drop> From<AllocFailed<T>> for Wrong {
 impl fmt::Display for Wrong {
     fn fmt<W: fmt::Write>(&self, f: &mut fmt::Formatter<W>) -> fmt::Result {
         match *self {
-            Wrong::At(place, reason) => {
-                let line = place.line;
-                let column = place.column;
+            Wrong::At(Place { line, column }, reason) => {
                 write!(f, "line {line}, column {column}: {reason}")
             }
             Wrong::OutOfMemory => write!(f, "out of memory"),

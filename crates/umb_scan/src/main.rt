@@ -3,7 +3,7 @@
 
 use anyhow::anyhow;
 use burst::read;
-use capture::{HexFault, Seen, Tally, decode, sort_of};
+use capture::{HexFault, Seen, Tally, decode};
 use report::{BadLine, Report};
 use std::env;
 use std::fs::File;
@@ -34,7 +34,7 @@ fn scan_line(rt: &HostRuntime, number: u64, text: &[u8]) -> anyhow::Result<Seen>
         finding,
     };
     println!(rt; "{report}")?;
-    Ok(sort_of(&finding))
+    Ok(Seen::from(&finding))
 }
 
 // A line at a time, so that a capture of any length needs no more memory than its longest line.

@@ -17,4 +17,4 @@ by_table c b h =
 
 pub returns : goal.returns
 unfolding shifts shifted
-returns c = by_table c.args.crc c.args.byte (search rules)
+returns c = rw (c.from-2.ensures, c.from.ensures) (by_table c.args.crc c.args.byte (search rules))

@@ -1,61 +1,52 @@
-use Rattle.std.proofs.Common.{◌≡◌, ℕ, ◌+◌, ◌*◌, ◌<◌, List, [], ◌∷◌, length, get_or, Err, vec_items, Option, sym, refl, ap, ◌∙◌, subst, arith}
+use Rattle.std.proofs.Common.{refl, ◌+◌, ◌*◌, [], ◌∷◌, vec_items, arith}
 use Rattle.std.proofs.lemmas.Slice.{pushed}
-use Rattle.capture.specs.declared.hex.HexFault.TheVariants.{HalfByte}
-use Rattle.capture.proofs.Decoding.{Left, digit_small, waits, joins, skips, ends, half_blank, half_comment, wrong, all, all_but_half}
+use Rattle.capture.proofs.Decoding.{waits, joins, skips, ends, halves, wrong, all, all_but_half}
 use Rattle.capture.proofs.hex.decode.Goals as goal
-use Rattle.capture.proofs.hex.decode.Goals.{in-Digit+in-None, in-Digit+in-Some+in_ok-push-in-Some, in-Blank+else-is_some}
+use Rattle.capture.proofs.hex.decode.Goals.{in-Digit-None, in-Digit-Some+in_ok-push-in-Digit-Some, in-Blank-None}
 
-pub returns-then-is_some : goal.returns-then-is_some
-returns-then-is_some c =
-    half_blank c.args.line.now c.loop-i.i (vec_items c.loop-i.bytes) c.loop-i-test.true c.loop-i.high
-    (sym c.if-is_some.ensures) (sym c.in-Blank.ensures) c.loop-i.invariant.0
+pub returns-in-Comment-None : goal.returns-in-Comment-None
+returns-in-Comment-None c =
+    ends c.args.line.now c.loop-i.i (vec_items c.loop-i.bytes) c.loop-i-test.true c.loop-i.high c.loop-i.invariant.0
+    c.classify.result c.classify.ensures c.in-Comment-None.is-0 c.in-Comment-None.is-1
 
-pub returns-then-is_some-2 : goal.returns-then-is_some-2
-returns-then-is_some-2 c =
-    half_comment c.args.line.now c.loop-i.i (vec_items c.loop-i.bytes) c.loop-i-test.true c.loop-i.high
-    (sym c.if-is_some-2.ensures) (sym c.in-Comment.ensures) c.loop-i.invariant.0
+pub returns-in-Other-default : goal.returns-in-Other-default
+returns-in-Other-default c =
+    wrong c.args.line.now c.loop-i.i (vec_items c.loop-i.bytes) c.loop-i-test.true c.loop-i.high c.loop-i.invariant.0
+    c.classify.result c.classify.ensures c.in-Other-default.is-0
 
-pub returns-in-Comment : goal.returns-in-Comment
-returns-in-Comment c =
-    ends c.args.line.now c.loop-i.i (vec_items c.loop-i.bytes) c.loop-i-test.true c.loop-i.high
-    (sym c.if-is_some-2.ensures) (sym c.in-Comment.ensures) c.loop-i.invariant.0
+pub returns-in-Blank-Some : goal.returns-in-Blank-Some
+returns-in-Blank-Some c =
+    let half = halves c.args.line.now c.loop-i.i (vec_items c.loop-i.bytes) c.loop-i-test.true c.loop-i.high c.loop-i.invariant.0 c.classify.result c.classify.ensures in
+    grind (arith, half)
 
-pub returns-in-Other : goal.returns-in-Other
-returns-in-Other c =
-    wrong c.args.line.now c.loop-i.i (vec_items c.loop-i.bytes) c.loop-i-test.true c.loop-i.high
-    (sym c.in-Other.ensures) c.loop-i.invariant.0
+pub returns-in-None : goal.returns-in-None
+returns-in-None c =
+    all c.args.line.now (vec_items c.loop-i.bytes) c.loop-i.i c.loop-i-test.false c.loop-i.high c.loop-i.invariant.0 c.in-None.is
 
-pub returns-in-None-high : goal.returns-in-None-high
-returns-in-None-high c =
-    let bytes : List ℕ = vec_items c.loop-i.bytes in
-    let left = subst (λ (h : Option ℕ). Left c.args.line.now c.loop-i.i h bytes) c.in-None-high.is c.loop-i.invariant.0 in
-    all c.args.line.now bytes c.loop-i.i c.loop-i-test.false left
-
-pub returns-in-Some-high : goal.returns-in-Some-high
-returns-in-Some-high c =
-    let bytes : List ℕ = vec_items c.loop-i.bytes in
-    let left = subst (λ (h : Option ℕ). Left c.args.line.now c.loop-i.i h bytes) c.in-Some-high.is c.loop-i.invariant.0 in
-    let end : c.loop-i.i ≡ length c.args.line.now = omega arith in
-    all_but_half c.args.line.now bytes c.loop-i.i c.in-Some-high.field-0 c.loop-i-test.false left ∙ ap (λ (j : ℕ). Err (HalfByte j)) end
+pub returns-in-Some : goal.returns-in-Some
+returns-in-Some c =
+    all_but_half c.args.line.now (vec_items c.loop-i.bytes) c.loop-i.i c.loop-i-test.false c.loop-i.high c.loop-i.invariant.0
+    c.in-Some.field-0 c.in-Some.is (omega arith)
 
 pub loop-i-preserved : goal.loop-i-preserved
 loop-i-preserved c =
-    let line : List ℕ = c.args.line.now in
-    let i : ℕ = c.loop-i.i in
-    let bytes : List ℕ = vec_items c.loop-i.bytes in
-    let inside : i < length line = c.loop-i-test.true in
-    let left : Left line i c.loop-i.high bytes = c.loop-i.invariant.0 in
+    let line = c.args.line.now in
+    let i = c.loop-i.i in
+    let bytes = vec_items c.loop-i.bytes in
+    let inside = c.loop-i-test.true in
+    let high = c.loop-i.high in
+    let left = c.loop-i.invariant.0 in
+    let kind = c.classify.ensures in
     elim c.match-classify.branch [
-      | in-Digit+in-None w ↦
-          let is = sym w.in-Digit.ensures in
-          let none = subst (λ (h : Option ℕ). Left line i h bytes) w.in-None.is left in
-          simp (w.high-is, w.bytes-is) (waits line i bytes inside w.in-Digit.digit is none, digit_small (get_or line i 0) w.in-Digit.digit is)
-      | in-Digit+in-Some+in_ok-push-in-Some w ↦
-          let is = sym w.in-Digit.ensures in
-          let some = subst (λ (h : Option ℕ). Left line i h bytes) w.in-Some.is left in
-          let more = pushed ((16 * w.in-Some.x + w.in-Digit.digit) ∷ []) refl w.in_ok-push-in-Some.was w.push.ensures.items in
-          simp (w.high-is, w.bytes-is, more) (joins line i bytes inside w.in-Some.x w.in-Digit.digit is some, tt)
-      | in-Blank+else-is_some w ↦
+      | in-Digit-None w ↦
+          let here = w.in-Digit-None in
+          simp (w.high-is, w.bytes-is) (waits line i bytes inside high left c.classify.result kind here.digit here.is-0 here.is-1)
+      | in-Digit-Some+in_ok-push-in-Digit-Some w ↦
+          let here = w.in-Digit-Some in
+          let more = pushed ((16 * here.x + here.digit) ∷ []) refl w.in_ok-push-in-Digit-Some.was w.push.ensures.items in
+          simp (w.high-is, w.bytes-is, more)
+          (joins line i bytes inside high left c.classify.result kind here.x here.digit here.is-0 here.is-1, tt)
+      | in-Blank-None w ↦
           simp (w.high-is, w.bytes-is)
-          (skips line i bytes inside c.loop-i.high (sym w.if-is_some.ensures) (sym w.in-Blank.ensures) left, c.loop-i.invariant.1)
+          (skips line i bytes inside high left c.classify.result kind w.in-Blank-None.is-0 w.in-Blank-None.is-1, c.loop-i.invariant.1)
     ]

@@ -1,7 +1,9 @@
 use Rattle.std.proofs.Common.{◌≡◌, ℕ, List, sym, ◌∙◌, subst}
+use Rattle.board.specs.Boards.{rules}
+use Rattle.board.specs.Meaning.{Rules}
 use Rattle.lines.specs.Making.{line_at}
 use Rattle.lines.specs.declared.Lines.{Lines}
-use Rattle.station.specs.Model.{Rules, Station, station_of}
+use Rattle.station.specs.Model.{Station, station_of}
 use Rattle.telegram.specs.View.{frame}
 use Rattle.head.specs.Bursts.{after_broadcast}
 use Rattle.head.specs.State.{record_at}
@@ -10,7 +12,7 @@ use Rattle.head.proofs.state.Head.spread.Goals as goal
 
 pub loop-slot-preserved : goal.loop-slot-preserved
 loop-slot-preserved g c =
-    let R : Rules = record { tells = g.B.Board.tells; stored = g.B.Board.stored; restarted = g.B.Board.restarted } in
+    let R : Rules = rules g.B.Board in
     let T : Station → Station = after_broadcast R (frame c.args.fields.now) in
     let lines : Lines = c.args.self.now.lines in
     let slot : ℕ = c.loop-slot.slot in

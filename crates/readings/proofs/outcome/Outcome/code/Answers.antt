@@ -1,6 +1,5 @@
-use Rattle.std.proofs.Common.{rules}
 use Rattle.readings.proofs.Coded.{outcome_back}
 use Rattle.readings.proofs.outcome.Outcome.code.Goals as goal
 
-pub returns-in-Value : goal.returns-in-Value
-returns-in-Value c = record { value = search rules; back = λ rest. outcome_back c.args.self }
+pub returns-in-Value-clause-back : goal.returns-in-Value-clause-back
+returns-in-Value-clause-back c = λ rest. outcome_back c.args.self

@@ -1,10 +1,11 @@
-use Rattle.std.proofs.Common.{◌∙◌}
+use Rattle.std.proofs.Common.{sym, subst, ◌∙◌}
 use Rattle.readings.proofs.Wire.{read_back}
+use Rattle.readings.specs.Bytes.{Reads}
 use Rattle.readings.proofs.reading.Reading.read.Goals as goal
 
-pub returns-in-Some-from_pattern : goal.returns-in-Some-from_pattern
-returns-in-Some-from_pattern c =
-    let v = c.in-Some-from_pattern.value in
-    let made = c.in-Some-from_pattern.ensures in
-    let both = read_back c.args.code c.args.bytes.now c.in-Some.kind v c.weigh.result c.in-Some.ensures (c.if-bytes-size.false ∙ c.size.ensures) c.weigh.ensures.value made.value made.back.0 made.back.1 c.type_inv.bytes in
-    record { value = both.0; back = both.1 }
+pub returns-clause-back : goal.returns-clause-back
+returns-clause-back c =
+    let code = c.args.code in
+    let bytes = c.args.bytes.now in
+    let of_weight = read_back code bytes c.in_ok-kind.kind c.from_pattern.result c.weigh.result c.in_ok-kind.ensures (c.if-bytes-size.false ∙ c.size.ensures) c.weigh.ensures.value c.from_pattern.ensures.same_kind c.from_pattern.ensures.same_bits c.type_inv.bytes in
+    subst (Reads code bytes) (sym c.ok_or.ensures.value) of_weight

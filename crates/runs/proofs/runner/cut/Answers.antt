@@ -1,5 +1,0 @@
-use Rattle.runs.proofs.Buffers.{cut_is}
-use Rattle.runs.proofs.runner.cut.Goals as goal
-
-pub returns : goal.returns
-returns c = cut_is c.args.bytes.now c.args.first c.args.length c.min-start.result c.min.result c.min-start.ensures c.min.ensures
