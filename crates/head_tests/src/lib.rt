@@ -10,7 +10,7 @@ mod tests {
     use readings::{Fault, Kind, Outcome, Reading};
     use refusals::Refusal;
     use station::StationLine;
-    use table::{Record, Table};
+    use table::{Record, Table, TableRefusal};
 
     const POLL: [u8; 16] = [
         0x01, 0x10, 0x01, 0x70, 0x01, 0xf0, 0x04, 0x02, 0x23, 0x10, 0x64, 0x00, 0x03, 0x61, 0xd9,
@@ -26,26 +26,23 @@ mod tests {
         }
     }
 
-    // The number that a start of these lines over a memory of 32 bytes is refused with, or 0.
-    fn started(lines: &[StationLine]) -> u8 {
+    // The number that a start of these lines over a memory of 32 bytes is refused with, or none.
+    fn started(lines: &[StationLine]) -> Result<Option<u8>, TableRefusal> {
         let mut records = [];
-        let Ok(board) = Table::new(&mut records) else {
-            return 255;
-        };
-        match Head::start(lines, 32, &board) {
-            Ok(_) => 0,
-            Err(refusal) => refusal.number(),
-        }
+        let board = Table::new(&mut records)?;
+        let refusal = Head::start(lines, 32, &board).err();
+        Ok(refusal.map(|refusal| refusal.number()))
     }
 
     #[test]
-    fn start_is_refused_rule_by_rule(rt: HostRuntime) {
-        assert!(rt; started(&[]) == 1);
-        assert!(rt; started(&[line(0xf001, 0)]) == 2);
-        assert!(rt; started(&[line(0x7001, 0), line(0x7001, 16)]) == 3);
-        assert!(rt; started(&[line(0x7001, 17)]) == 4);
-        assert!(rt; started(&[line(0x7001, 0), line(0x7002, 15)]) == 5);
-        assert!(rt; started(&[line(0x7001, 0), line(0x7002, 16)]) == 0);
+    fn start_is_refused_rule_by_rule(rt: HostRuntime) -> Result<(), TableRefusal> {
+        assert!(rt; started(&[])? == Some(1));
+        assert!(rt; started(&[line(0xf001, 0)])? == Some(2));
+        assert!(rt; started(&[line(0x7001, 0), line(0x7001, 16)])? == Some(3));
+        assert!(rt; started(&[line(0x7001, 17)])? == Some(4));
+        assert!(rt; started(&[line(0x7001, 0), line(0x7002, 15)])? == Some(5));
+        assert!(rt; started(&[line(0x7001, 0), line(0x7002, 16)])? == None);
+        Ok(())
     }
 
     // The reply to the manual's poll where channel 100 of the second station is at float bits 41E154F5h.

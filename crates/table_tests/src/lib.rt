@@ -19,20 +19,18 @@ mod tests {
         }
     }
 
-    // The number of the refusal, or 0 where the table was made.
-    fn making(records: &mut [Record]) -> u8 {
+    // The number of the refusal, or none where the table was made.
+    fn making(records: &mut [Record]) -> Option<u8> {
         match Table::new(records) {
-            Ok(_) => 0,
-            Err(refusal) => refusal.number(),
+            Ok(_) => None,
+            Err(refusal) => Some(refusal.number()),
         }
     }
 
-    // The number of the refusal, or 0 where the put was taken.
-    fn putting(res: Result<(), PutRefusal>) -> u8 {
-        match res {
-            Ok(()) => 0,
-            Err(refusal) => refusal.number(),
-        }
+    // The number of the refusal, or none where the put was taken.
+    fn putting(put: Result<(), PutRefusal>) -> Option<u8> {
+        let refusal = put.err()?;
+        Some(refusal.number())
     }
 
     // The value, or the fault's code, which no value of these tests has.
@@ -59,7 +57,7 @@ mod tests {
         };
         assert!(rt; table.slots() == 32);
         let put = table.put(31, 100, Outcome::Value(Reading::U16(4000)));
-        assert!(rt; putting(put) == 0);
+        assert!(rt; putting(put) == None);
         table.restart(31);
         assert!(rt; shown(table.look(31, 100)) == 4000);
         assert!(rt; shown(table.look(0, 100)) == 1000);
@@ -76,12 +74,12 @@ mod tests {
             return Err(Fail::new("refused"));
         };
         let seven = Outcome::Value(Reading::U16(7));
-        assert!(rt; putting(table.put(32, 100, seven)) == 20);
-        assert!(rt; putting(table.put(3, 101, seven)) == 21);
-        assert!(rt; putting(table.put(3, 100, Outcome::Value(Reading::I16(7)))) == 22);
-        assert!(rt; putting(table.put(3, 100, Outcome::Fault(Fault::InvalidChannel))) == 22);
+        assert!(rt; putting(table.put(32, 100, seven)) == Some(20));
+        assert!(rt; putting(table.put(3, 101, seven)) == Some(21));
+        assert!(rt; putting(table.put(3, 100, Outcome::Value(Reading::I16(7)))) == Some(22));
+        assert!(rt; putting(table.put(3, 100, Outcome::Fault(Fault::InvalidChannel))) == Some(22));
         assert!(rt; shown(table.look(3, 100)) == 1000);
-        assert!(rt; putting(table.put(3, 100, Outcome::Fault(Fault::ChannelOff))) == 0);
+        assert!(rt; putting(table.put(3, 100, Outcome::Fault(Fault::ChannelOff))) == None);
         assert!(rt; shown(table.look(3, 100)) == 0x36);
         Ok(())
     }
@@ -99,23 +97,23 @@ mod tests {
         };
         let minus_zero = Outcome::from_float_bits::<f32>(0x8000_0000);
         let put = table.put(0, 100, minus_zero);
-        assert!(rt; putting(put) == 0);
+        assert!(rt; putting(put) == None);
         assert!(rt; float_bits(table.look(0, 100)) == Some(0x8000_0000));
         Ok(())
     }
 
     #[test]
     fn no_table_is_made_for_each_reason(rt: HostRuntime) {
-        assert!(rt; making(&mut [word(0, 0, 0), word(0, 65534, 0), word(1, 0, 0)]) == 0);
-        assert!(rt; making(&mut [word(0, 0, 0); 4097]) == 43);
-        assert!(rt; making(&mut [word(32, 0, 0)]) == 43);
-        assert!(rt; making(&mut [word(0, 65535, 0)]) == 43);
+        assert!(rt; making(&mut [word(0, 0, 0), word(0, 65534, 0), word(1, 0, 0)]) == None);
+        assert!(rt; making(&mut [word(0, 0, 0); 4097]) == Some(43));
+        assert!(rt; making(&mut [word(32, 0, 0)]) == Some(43));
+        assert!(rt; making(&mut [word(0, 65535, 0)]) == Some(43));
         let mut absent = word(0, 0, 0);
         absent.outcome = Outcome::Fault(Fault::InvalidChannel);
-        assert!(rt; making(&mut [absent]) == 43);
+        assert!(rt; making(&mut [absent]) == Some(43));
         let mut mistyped = word(0, 0, 0);
         mistyped.kind = Kind::U32;
-        assert!(rt; making(&mut [mistyped]) == 43);
-        assert!(rt; making(&mut [word(5, 7, 0), word(5, 8, 0), word(5, 7, 1)]) == 43);
+        assert!(rt; making(&mut [mistyped]) == Some(43));
+        assert!(rt; making(&mut [word(5, 7, 0), word(5, 8, 0), word(5, 7, 1)]) == Some(43));
     }
 }

@@ -8,12 +8,12 @@ mod tests {
     use burst::{ReadFault, find, read, relay};
     use checksum::crc;
     use refusals::Refusal;
-    use std::test::Fail;
     use telegram::{Fields, write};
 
-    // The number that reading a burst is refused with, or 0 where a telegram stands in it.
-    fn fault_of(burst: &[u8]) -> u8 {
-        read(burst).map_or_else(|fault| fault.number(), |_| 0)
+    // The number that reading a burst is refused with, or none where a telegram stands in it.
+    fn fault_of(burst: &[u8]) -> Option<u8> {
+        let fault = read(burst).err()?;
+        Some(fault.number())
     }
 
     // The position of the fault, or none where there is no fault or it has none.
@@ -45,7 +45,7 @@ mod tests {
         let mut buffer = [0xaau8; 230];
         assert!(rt; written(&[7; 210], &mut buffer) == Ok(224));
         assert!(rt; buffer[224] == 0xaa);
-        assert!(rt; fault_of(&buffer) == 0);
+        assert!(rt; fault_of(&buffer) == None);
         assert!(rt; written(&[7; 211], &mut buffer) == Err(36));
         assert!(rt; written(&[7; 211], &mut [0; 223]) == Err(32));
     }
@@ -56,33 +56,26 @@ mod tests {
         assert!(rt; written(&[7; 210], &mut buffer) == Ok(224));
         assert!(rt; buffer[6] == 212);
         buffer[6] = 213;
-        assert!(rt; fault_of(&buffer) == 61);
+        assert!(rt; fault_of(&buffer) == Some(61));
         assert!(rt; place_of(&buffer) == Some(6));
     }
 
     #[test]
-    fn burst_of_513_bytes_is_too_long(rt: HostRuntime) -> Result<(), Fail> {
-        assert!(rt; fault_of(&[0; 512]) == 60);
+    fn burst_of_513_bytes_is_too_long(rt: HostRuntime) {
+        assert!(rt; fault_of(&[0; 512]) == Some(60));
         assert!(rt; place_of(&[0; 512]) == Some(512));
-        assert!(rt; fault_of(&[0; 513]) == 10);
+        assert!(rt; fault_of(&[0; 513]) == Some(10));
         assert!(rt; place_of(&[0; 513]) == None);
-        match find(&[0; 513]) {
-            Err(ReadFault::TooLong) => Ok(()),
-            _ => Err(Fail::new("not refused")),
-        }
+        assert!(rt; find(&[0; 513]) == Err(ReadFault::TooLong));
     }
 
     #[test]
-    fn telegram_is_passed_on_without_noise(rt: HostRuntime) -> Result<(), Fail> {
+    fn telegram_is_passed_on_without_noise(rt: HostRuntime) {
         let burst = b"\xff\x01\x10\x01\x70\x01\xf0\x04\x02\x23\x10\x64\x00\x03\x61\xd9\x04\x00";
         let mut buffer = [0u8; 224];
-        match relay(burst, &mut buffer) {
-            Ok(n) => assert!(rt; n == 16),
-            Err(_) => return Err(Fail::new("not passed on")),
-        }
+        assert!(rt; relay(burst, &mut buffer) == Ok(16));
         assert!(rt;
             buffer[0] == 0x01 && buffer[8] == 0x23 && buffer[14] == 0xd9 && buffer[16] == 0
         );
-        Ok(())
     }
 }

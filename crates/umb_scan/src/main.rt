@@ -46,10 +46,8 @@ fn scan<R: BufRead + Drop>(rt: &HostRuntime, mut input: R) -> anyhow::Result<()>
         if input.read_until(b'\n', &mut text)? == 0 {
             break;
         }
-        if text.last().copied() == Some(b'\n') {
-            let _ = text.pop();
-        }
-        tally.note(scan_line(rt, number, text.as_slice())?);
+        let line = text.strip_suffix(b"\n").unwrap_or(text.as_slice());
+        tally.note(scan_line(rt, number, line)?);
     }
     println!(rt; "{tally}")?;
     Ok(())
@@ -59,10 +57,12 @@ fn run(rt: &HostRuntime) -> anyhow::Result<()> {
     let mut args = env::args(rt)?;
     let _program = args.next();
     match args.next() {
-        Some(path) => match File::open(rt, path.as_str()) {
-            Ok(file) => scan(rt, BufReader::new(rt.alloc(), file)?),
-            Err(cause) => Err(anyhow!("cannot read {path}: {cause}")),
-        },
+        Some(path) => {
+            let file = File::open(rt, path.as_str()).map_err(|cause| anyhow!(
+                "cannot read {path}: {cause}"
+            ))?;
+            scan(rt, BufReader::new(rt.alloc(), file)?)
+        }
         None => scan(rt, BufReader::new(rt.alloc(), rt.stdin())?),
     }
 }
