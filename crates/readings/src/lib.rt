@@ -11,6 +11,15 @@ pub mod outcome;
 pub mod reading;
 pub mod value;
 
+// The paths of the two types of floats, each by its format.
+pub mod float32 {
+    pub use crate::not_nan::Float;
+}
+
+pub mod float64 {
+    pub use crate::not_nan::Double;
+}
+
 pub use code::UnknownCode;
 pub use fault::Fault;
 pub use ieee::Ieee;
