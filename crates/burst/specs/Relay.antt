@@ -4,7 +4,8 @@ use Rattle.burst.specs.declared.repeater.RelayFault.{RelayFault}
 use Rattle.burst.specs.declared.repeater.RelayFault.TheVariants.{Unread as NotRead, Unwritten}
 use Rattle.telegram.specs.declared.WriteRefusal.TheVariants.{BufferTooShort}
 use Rattle.telegram.specs.Layout.{part, len, First}
-use Rattle.burst.specs.Reading.{Unread}
+use Rattle.telegram.specs.Writing.{number}
+use Rattle.burst.specs.Reading.{Unread, told}
 
 -- The bytes of the burst's telegram, just as they lie there, at the front of the buffer.
 pub record Relayed (burst before after : List ℕ) (n : ℕ) : Type 0 where
@@ -17,3 +18,8 @@ pub record Relayed (burst before after : List ℕ) (n : ℕ) : Type 0 where
 abbrev pub NotRelayed : List ℕ → List ℕ → RelayFault → Type 0
 NotRelayed burst before (NotRead f) = Unread burst f
 NotRelayed burst before (Unwritten e) = ((p : ℕ) × First burst p) × (e ≡ BufferTooShort) × (length before < 224)
+
+-- a refusal's number is that of the reading or of the writing that it comes from
+abbrev pub relay_number : RelayFault → ℕ
+relay_number (NotRead f) = (told f).number
+relay_number (Unwritten e) = number e

@@ -1,10 +1,11 @@
 // A telegram that is read, written again.
 ghost use Rattle.std.specs.Prelude.{◌≡◌, MatchResult, OnErr};
-ghost use Rattle.burst.specs.Relay.{Relayed, NotRelayed};
+ghost use Rattle.burst.specs.Relay.{Relayed, NotRelayed, relay_number};
 ghost use Rattle.burst.specs.declared.repeater.RelayFault.TheVariants.{Unread, Unwritten};
 
 use super::fault::ReadFault;
 use super::search::read;
+use refusals::Refusal;
 use std::error::Error;
 use std::fmt;
 use telegram::{WriteRefusal, write};
@@ -26,6 +27,17 @@ impl fmt::Display for RelayFault {
 }
 
 impl Error for RelayFault {}
+
+impl Refusal for RelayFault {
+    ghost number = { relay_number };
+
+    fn number(&self) -> u8 {
+        match self {
+            RelayFault::Unread(fault) => fault.number(),
+            RelayFault::Unwritten(refusal) => refusal.number(),
+        }
+    }
+}
 
 impl From<ReadFault> for RelayFault {
     ghost from_gives = { λ f r. r ≡ Unread f };
