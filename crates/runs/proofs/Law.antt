@@ -20,7 +20,7 @@ fed : (R : Rules) (t : Bool) (st next : Station) (e : Event) (es : List Event) (
 fed R true st next e es d ds last turned said ends tells = (cc, cc (said refl))
 fed R false st next e es d ds last turned said ends tells = (cc, cc)
 
-modelled : (R : Rules) (slots k : ℕ) (xs : List Exchange) (a b : Cabinet) → OfOneStart a slots → k < stations a.head → Run R slots a xs b → AsTheModel R a b xs k
+pub modelled : (R : Rules) (slots k : ℕ) (xs : List Exchange) (a b : Cabinet) → OfOneStart a slots → k < stations a.head → Run R slots a xs b → AsTheModel R a b xs k
 modelled R slots k [] a b ready there run = record { ends = cc; says = refl; others = tt }
 modelled R slots k (x ∷ xs) a b ready there run =
     let c : Cabinet = run.0 in

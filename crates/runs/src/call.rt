@@ -1,6 +1,7 @@
 // Calls of a head as a list keeps them, and what comes of each.
-ghost use Rattle.std.specs.Prelude.{◌≡◌};
-ghost use Rattle.runs.specs.Calls.{fault_number};
+ghost use Rattle.std.specs.Prelude.{◌≡◌, ℕ, min};
+ghost use Rattle.telegram.specs.Layout.{part};
+ghost use Rattle.runs.specs.Calls.{burst, fault_number, input_of};
 ghost use Rattle.runs.specs.declared.call.CallFault.TheVariants.{Burst, Put, Condition};
 
 use head::{BurstFault, ConditionFault, PutFault};
@@ -30,6 +31,28 @@ pub enum Call<'a> {
     Tick {
         seconds: u32,
     },
+}
+
+// So many bytes from a place on, cut to what there is.
+fn cut(bytes: &[u8], first: usize, length: usize) -> &[u8]
+    ensures { result.now ≡ part bytes.now first length }
+{
+    let start = first.min(bytes.len());
+    let end = start + length.min(bytes.len() - start);
+    &bytes[start..end]
+}
+
+impl<'a> Call<'a> {
+    // A burst whose bytes lie in traffic that is kept elsewhere, `length` of them from `first` on, cut to what there is. So
+    // every place in every traffic means a burst.
+    pub fn burst_in(traffic: &'a [u8], first: usize, length: usize, room: usize) -> Call<'a>
+        ensures { (lent : ℕ) → input_of lent result ≡ burst (part traffic.now first length) (min room lent) }
+    {
+        Call::Burst {
+            bytes: cut(traffic, first, length),
+            room,
+        }
+    }
 }
 
 // The reply of the station in a slot. `Bytes` keeps only zeros behind its bytes, and so nothing of another station's reply.
