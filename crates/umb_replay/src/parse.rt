@@ -6,6 +6,7 @@ use crate::wrong::{Item, Place, Reason, Wrong};
 use address::Address;
 use capture::{HexFault, Kind, classify, decode};
 use runs::Call;
+use smallvec::SmallVec;
 use station::StationLine;
 use std::alloc::Global;
 use table::Record;
@@ -126,10 +127,18 @@ fn read_room<'a>(rest: Word<'a>) -> Result<(usize, Word<'a>), Wrong> {
     Ok((room, behind.split(1).1))
 }
 
+// A burst of the bytes that are spelled.
+fn burst_of(heap: Global, room: usize, spelled: Word<'_>) -> Result<Deed, Wrong> {
+    let bytes = read_hex(heap, spelled)?;
+    Ok(Deed::Burst {
+        room,
+        bytes: SmallVec::from_slice(heap, bytes.as_slice())?,
+    })
+}
+
 fn read_burst(heap: Global, words: &mut Words<'_>) -> Result<Deed, Wrong> {
     let (room, spelled) = read_room(words.take_rest())?;
-    let bytes = read_hex(heap, spelled)?;
-    Ok(Deed::Burst { room, bytes })
+    burst_of(heap, room, spelled)
 }
 
 // Whether a word begins with two hex digits.
@@ -189,9 +198,7 @@ pub(crate) fn read_line(heap: Global, number: u64, text: &[u8]) -> Result<Option
     };
     let place = first.place;
     if begins_with_byte(first.text) {
-        let bytes = read_hex(heap, whole)?;
-        let room = USUAL_ROOM;
-        let statement = Statement::Deed(Deed::Burst { room, bytes });
+        let statement = Statement::Deed(burst_of(heap, USUAL_ROOM, whole)?);
         return Ok(Some(Line { place, statement }));
     }
     let statement = read_statement(heap, first, &mut words)?;

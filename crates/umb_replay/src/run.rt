@@ -186,7 +186,7 @@ fn put_samples(
     samples: &[Sample],
 ) -> anyhow::Result<()> {
     for sample in samples {
-        let line = sample.place.line;
+        let line = sample.line;
         let slot = sample.slot;
         let outcome = Outcome::Value(Reading::I32(sample.value));
         if let Err(refusal) = board.put(slot, SAMPLE_CHANNEL, outcome) {

@@ -9,12 +9,13 @@ use anyhow::anyhow;
 use station::StationLine;
 use std::alloc::Global;
 use std::io::BufRead;
+use std::mem;
 use table::Record;
 
 // A sample that a board holds before the start.
 #[derive(Clone, Copy)]
 pub(crate) struct Sample {
-    pub(crate) place: Place,
+    pub(crate) line: u64,
     pub(crate) slot: usize,
     pub(crate) value: i32,
 }
@@ -58,6 +59,7 @@ struct Cabinet {
     records: Vec<Record>,
     first_record: Option<Place>,
     samples: Vec<Sample>,
+    first_sample: Option<Place>,
 }
 
 // Lays the bytes of a patch into the memory, where they do not go past its end.
@@ -84,6 +86,7 @@ impl Cabinet {
             records: Vec::new(heap),
             first_record: None,
             samples: Vec::new(heap),
+            first_sample: None,
         }
     }
 
@@ -107,7 +110,11 @@ impl Cabinet {
                 self.first_record = self.first_record.or(Some(place));
                 self.records.push(record)?;
             }
-            Part::Sample { slot, value } => self.samples.push(Sample { place, slot, value })?,
+            Part::Sample { slot, value } => {
+                let line = place.line;
+                self.first_sample = self.first_sample.or(Some(place));
+                self.samples.push(Sample { line, slot, value })?;
+            }
         }
         Ok(())
     }
@@ -122,11 +129,12 @@ impl Cabinet {
             records,
             first_record,
             samples,
+            first_sample,
         } = self;
         let board = match board.unwrap_or(BoardKind::Table) {
             BoardKind::Table => {
-                if let Some(sample) = samples.first() {
-                    return Err(sample.place.wrong(Reason::SampleElsewhere));
+                if let Some(place) = first_sample {
+                    return Err(place.wrong(Reason::SampleElsewhere));
                 }
                 BoardPlan::Table(records)
             }
@@ -159,24 +167,26 @@ enum Draft {
 }
 
 impl Draft {
-    fn add(self, heap: Global, line: Line) -> Result<Draft, Wrong> {
+    // A line changes the draft in place: it is too large to be moved for each.
+    fn add(&mut self, heap: Global, line: Line) -> Result<(), Wrong> {
         let Line { place, statement } = line;
         match self {
-            Draft::Before(mut cabinet) => match statement {
-                Statement::Part(part) => {
-                    cabinet.add(place, part)?;
-                    Ok(Draft::Before(cabinet))
+            Draft::Before(cabinet) => match statement {
+                Statement::Part(part) => cabinet.add(place, part),
+                Statement::Start => {
+                    let cabinet = mem::replace(cabinet, Cabinet::new(heap));
+                    *self = Draft::Behind(cabinet.start(heap)?);
+                    Ok(())
                 }
-                Statement::Start => Ok(Draft::Behind(cabinet.start(heap)?)),
                 Statement::Deed(_) => Err(place.wrong(Reason::BeforeStart)),
             },
-            Draft::Behind(mut script) => match statement {
+            Draft::Behind(script) => match statement {
                 Statement::Part(_) => Err(place.wrong(Reason::AfterStart)),
                 Statement::Start => Err(place.wrong(Reason::StartTwice)),
                 Statement::Deed(deed) => {
                     let line = place.line;
                     script.scenario.steps.push(Step { line, deed })?;
-                    Ok(Draft::Behind(script))
+                    Ok(())
                 }
             },
         }
@@ -202,7 +212,7 @@ pub(crate) fn read<R: BufRead + Drop>(heap: Global, mut input: R) -> anyhow::Res
         }
         let line = text.strip_suffix(b"\n").unwrap_or(text.as_slice());
         if let Some(line) = read_line(heap, number, line)? {
-            draft = draft.add(heap, line)?;
+            draft.add(heap, line)?;
         }
     }
     Err(anyhow!("the script has too many lines"))

@@ -1,6 +1,7 @@
 // What a line of a script says.
 use crate::wrong::Place;
 use runs::Call;
+use smallvec::SmallVec;
 use station::StationLine;
 use table::Record;
 use telegram::LONGEST_TELEGRAM;
@@ -40,10 +41,14 @@ pub(crate) enum Part {
     Sample { slot: usize, value: i32 },
 }
 
-// What is done behind it. A burst owns its bytes.
+// What is done behind it. A burst owns its bytes. Up to 24 lie in the deed, which is no larger for it, since a put takes as
+// much: then a long script needs no block of memory for each poll.
 #[derive(Drop)]
 pub(crate) enum Deed {
-    Burst { room: usize, bytes: Vec<u8> },
+    Burst {
+        room: usize,
+        bytes: SmallVec<u8, 24>,
+    },
     Call(Call<'static>),
     Show(usize),
 }

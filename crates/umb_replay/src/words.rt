@@ -56,11 +56,13 @@ impl<'a> Words<'a> {
 
     // A number of this type.
     pub(crate) fn number<N: Number>(&mut self, item: Item) -> Result<N, Wrong> {
-        self.number_up_to(item, N::MAX)
+        self.need(item)?.number(item)
     }
 
-    // A number of this type that is at most `most`.
-    pub(crate) fn number_up_to<N: Number>(&mut self, item: Item, most: u64) -> Result<N, Wrong> {
+    // A length or a place that is at most `most`.
+    pub(crate) fn number_up_to(&mut self, item: Item, most: u64) -> Result<usize, Wrong>
+        ensures { IfOk result (λ n. n ≤ most) }
+    {
         self.need(item)?.number_up_to(item, most)
     }
 
@@ -179,13 +181,15 @@ impl<'a> Word<'a> {
 
     // A number of this type.
     pub(crate) fn number<N: Number>(self, item: Item) -> Result<N, Wrong> {
-        self.number_up_to(item, N::MAX)
+        let number = self.at_most(item, N::MAX)?;
+        N::try_from(number).map_err(|_| self.wrong(Reason::Above(item, N::MAX)))
     }
 
-    // A number of this type that is at most `most`.
-    pub(crate) fn number_up_to<N: Number>(self, item: Item, most: u64) -> Result<N, Wrong> {
-        let number = self.at_most(item, most)?;
-        N::try_from(number).map_err(|_| self.wrong(Reason::Above(item, most)))
+    // A length or a place that is at most `most`.
+    pub(crate) fn number_up_to(self, item: Item, most: u64) -> Result<usize, Wrong>
+        ensures { IfOk result (λ n. n ≤ most) }
+    {
+        Ok(self.at_most(item, most)? as usize)
     }
 
     fn at_most(self, item: Item, most: u64) -> Result<u64, Wrong>
