@@ -59,7 +59,8 @@ impl<B: Shares> Session<B> {
         Ok(())
     }
 
-    // The station in a slot.
+    // The station in a slot. It stays out of the loop that makes the calls.
+    #[inline(never)]
     fn show(&self, rt: &HostRuntime, line: u64, slot: usize) -> anyhow::Result<()> {
         let (Some(station), Some(record)) = (self.head.line(slot), self.head.record(slot)) else {
             println!(rt; "line {line}: slot {slot}: there is no station in this slot")?;

@@ -41,8 +41,8 @@ pub(crate) enum Part {
     Sample { slot: usize, value: i32 },
 }
 
-// What is done behind it. A burst owns its bytes. Up to 24 lie in the deed, which is no larger for it, since a put takes as
-// much: then a long script needs no block of memory for each poll.
+// What is done behind it. A burst owns its bytes. Up to 24 bytes lie in the deed, which is no larger for it, since a put
+// takes as much: then a long script needs no block of memory for each poll.
 #[derive(Drop)]
 pub(crate) enum Deed {
     Burst {
